@@ -7,13 +7,13 @@ use mathlib.Core.Path.{_≡_, refl, sym, _∙_, ap}
 use native.Mathlib.Omega.{arith}
 use native.Mathlib.Numerals.{add-one}
 use lib.ListN.{length, getD, take, drop, set, length-set}
-use lib.Seq.{drop-drop, getD-drop, take-suc-set}
+use lib.Seq.{drop-cons, drop-drop, getD-drop, take-suc-set}
 use lib.Dec.{leb}
 use borrow.Author.Tests.{le-leb, lt-leb}
 use Rattle.lines.specs.Number.{numberOf}
 use Rattle.lines.specs.Parts.{parts}
 use Rattle.lines.specs.Line.{Range, inFront, fieldOf, fieldsOf, rangesOf}
-use Rattle.lines.specs.Place.{line, field, lineEnd, spelledAt, Found, found, nothing, foundAt, fieldsAt}
+use Rattle.lines.specs.Place.{line, field, lineEnd, spelledAt, Found, found, nothing, foundAt, fieldsAt, cellsFrom, cells}
 use Rattle.lines.specs.Steps.{commaAt}
 use Rattle.lines.proofs.Parts.{first-part}
 use Rattle.lines.proofs.Spelling.{ended, broken, behind-comma, behind-last}
@@ -83,6 +83,12 @@ from-end low high n i h = ap (λ k. rangesOf k (drop i low) (drop i high)) p
   where
     p : n - i ≡ 0
     p = omega arith
+
+-- the first n numbers, where there are as many
+cells-from : (n i : ℕ) (v : List ℕ) → i + n ≤ length v → cellsFrom n i v ≡ take n (drop i v)
+cells-from zero i v h = refl
+cells-from (suc n) i v h =
+    ap (λ l. getD v i 0 ∷ l) (cells-from n (suc i) v (omega arith)) ∙ ap (take (suc n)) (sym (drop-cons v i 0 (omega arith)))
 
 -- ── the fields read so far in front of the others ──
 
@@ -174,7 +180,7 @@ module _ {s low high : List ℕ} {at n : ℕ} {v : List ℕ} {i p : ℕ} (r : Fi
                 let y : fieldsOf (from low high n (i + 1)) [] ≡ none = rw (from-next low high n (i + 1) m) refl in
                 sym (ap (λ o. foundAt o (lineEnd s at)) (next [] (b .0) ∙ ap (behind (take (i + 1) (set v i x))) y))
 
-            pub all : n ≤ i + 1 → found (take (min n 6) (set v i x)) e ≡ fieldsAt (rangesOf n low high) s at
+            pub all : n ≤ i + 1 → found (cells (min n 6) (set v i x)) e ≡ fieldsAt (rangesOf n low high) s at
             unfolding fieldsAt fieldsOf
             all m =
                 let b = behind-last s p e (ended s p x e k .place) c in
@@ -187,4 +193,5 @@ module _ {s low high : List ℕ} {at n : ℕ} {v : List ℕ} {i p : ℕ} (r : Fi
                 sym
                 (ap (λ o. foundAt o (lineEnd s at)) z
                 ∙ ap (found w) (sym j)
-                ∙ ap (λ m′. found (take m′ (set v i x)) e) t)
+                ∙ ap (λ m′. found (take m′ (set v i x)) e) t
+                ∙ ap (λ l. found l e) (sym (cells-from (min n 6) 0 (set v i x) (omega (arith, length-set v i x, r .room)))))

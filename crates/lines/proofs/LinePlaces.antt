@@ -10,7 +10,7 @@ use lib.Seq.{drop-drop}
 use Rattle.lines.specs.Number.{numberOf}
 use Rattle.lines.specs.Parts.{until, parts}
 use Rattle.lines.specs.Line.{Range, Format, prefix, fieldOf, fieldsOf, lineOf, rangesOf}
-use Rattle.lines.specs.Place.{line, lineEnd, Found, found, nothing, foundAt, fieldsAt, lineAt, foundIn}
+use Rattle.lines.specs.Place.{line, lineEnd, Found, found, nothing, foundAt, fieldsAt, lineAt, cells, foundIn}
 use Rattle.lines.specs.declared.lines.Place.{Place}
 use Rattle.lines.specs.declared.lines.Place.the-variants.{At, Nowhere}
 use Rattle.lines.proofs.Parts.{rest-all}
@@ -51,7 +51,7 @@ found-six : (r : Place) (m n : ℕ) (v : List ℕ) → m ≡ min n 6 → foundIn
 unfolding foundIn
 found-six (At e) m n v h =
     let k : min n 6 ≡ min m 6 = omega arith in
-    ap (λ k. found (take k v) e) k
+    ap (λ k. found (cells k v) e) k
 found-six Nowhere m n v h = refl
 
 pub line-read : (w low high s : List ℕ) (at m n : ℕ) (r : Place) (v : List ℕ) → m ≡ min n 6 →

@@ -5,7 +5,7 @@ use mathlib.Core.Bool.{Bool, true, false, _&&_, false≢true}
 use mathlib.Core.Option.{Option, some, none}
 use mathlib.Core.Path.{_≡_, refl, sym, _∙_, ap}
 use native.Mathlib.Omega.{arith}
-use lib.ListN.{length, drop}
+use lib.ListN.{length, drop, drop-of-length-le}
 use lib.Seq.{drop-append-seam}
 use lib.Dec.{ltb, leb, eqb}
 use borrow.Author.Tests.{ltb-true, ltb-false, leb-true, eq-eqb, ne-eqb}
@@ -171,3 +171,23 @@ line-range f p vs e = go (prefix (f .word) p) e
         InRanges (f .ranges) vs
     go true k = fields-range (f .ranges) (parts 44 (drop (length (f .word)) p)) vs k
     go false k = let z : _≡_ {A = ℕ} 0 1 = cc in absurd (omega arith)
+
+-- a line has a number behind its word
+no-fields : (rs : List Range) → fieldsOf rs (parts 44 []) ≡ none
+unfolding fieldsOf fieldOf numberOf parts
+no-fields [] = refl
+no-fields (r ∷ rs) = refl
+
+pub line-longer : (f : Format) (p vs : List ℕ) → lineOf f p ≡ some vs → length (f .word) < length p
+unfolding lineOf
+line-longer f p vs e = go (prefix (f .word) p) refl e (ltb (length (f .word)) (length p)) refl
+  where
+    go : (b : Bool) → prefix (f .word) p ≡ b →
+        elim b [ true ↦ fieldsOf (f .ranges) (parts 44 (drop (length (f .word)) p)) | false ↦ none ] ≡ some vs →
+        (x : Bool) → ltb (length (f .word)) (length p) ≡ x → length (f .word) < length p
+    go true q k true l = ltb-true _ _ l
+    go true q k false l =
+        let d : drop (length (f .word)) p ≡ [] = drop-of-length-le p (ltb-false _ _ l) in
+        let n = sym (no-fields (f .ranges)) ∙ ap (λ t. fieldsOf (f .ranges) (parts 44 t)) (sym d) ∙ k in
+        let z : _≡_ {A = ℕ} 0 1 = cc in absurd (omega arith)
+    go false q k x l = let z : _≡_ {A = ℕ} 0 1 = cc in absurd (omega arith)

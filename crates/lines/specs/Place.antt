@@ -1,9 +1,9 @@
 -- A number and a line that begin at a place of a text, and where they end.
-use Prim.Native.Nat.{ℕ, _+_, min}
-use mathlib.Core.List.{List}
+use Prim.Native.Nat.{ℕ, zero, suc, _+_, min}
+use mathlib.Core.List.{List, [], _∷_}
 use mathlib.Core.Bool.{true, false}
 use mathlib.Core.Option.{Option, some, none}
-use lib.ListN.{length, take, drop}
+use lib.ListN.{length, getD, drop}
 use Rattle.lines.specs.Number.{numberOf}
 use Rattle.lines.specs.Parts.{until, parts}
 use Rattle.lines.specs.Line.{Range, Format, prefix, fieldsOf}
@@ -56,7 +56,15 @@ lineAt f s at =
       | false ↦ nothing
     ]
 
+-- the first n numbers of v
+abbrev pub cellsFrom : ℕ → ℕ → List ℕ → List ℕ
+cellsFrom zero i v = []
+cellsFrom (suc n) i v = getD v i 0 ∷ cellsFrom n (suc i) v
+
+abbrev pub cells : ℕ → List ℕ → List ℕ
+cells n v = cellsFrom n 0 v
+
 -- what an answer says, where its numbers are the first n of v, six at most
 unfoldable pub foundIn : Place → ℕ → List ℕ → Found
-foundIn (At e) n v = found (take (min n 6) v) e
+foundIn (At e) n v = found (cells (min n 6) v) e
 foundIn Nowhere n v = nothing

@@ -1,0 +1,6 @@
+pub mod Reading
+pub mod Alternatives
+pub mod RowLaws
+pub mod TraceReading
+pub mod ReportReading
+pub mod ScheduleReading
