@@ -4,3 +4,4 @@ pub mod RowLaws
 pub mod TraceReading
 pub mod ReportReading
 pub mod ScheduleReading
+pub mod ProgramsReading

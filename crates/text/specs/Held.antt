@@ -1,17 +1,21 @@
 -- What the arrays of a text that was read stand for, and what the readers promise.
-use Prim.Native.Nat.{ℕ, _%_, _≤_}
-use mathlib.Core.List.{List}
+use Prim.Native.Nat.{ℕ, _%_, _≤_, _<_}
+use mathlib.Core.List.{List, []}
 use mathlib.Core.Bool.{cond}
 use mathlib.Core.Path.{_≡_}
-use lib.ListN.{length, getD, drop}
+use lib.ListN.{length, getD, take, drop}
 use lib.Dec.{eqb, ltb}
 use Rattle.text.specs.Text.{Read, readable, unreadable}
+use Rattle.text.specs.Programs.{readPrograms}
 use Rattle.text.specs.Trace.{requestFrom, responseFrom, readTrace}
 use Rattle.text.specs.Report.{Report, ofFrom, entryFrom, readReport}
 use Rattle.text.specs.Schedule.{arriveFrom, readSchedule}
 use Rattle.text.specs.Rows.{row, firsts}
 use Rattle.text.specs.declared.kinds.Lines.{Lines}
 use Rattle.text.specs.declared.kinds.Lines.the-variants.{Readable, Unreadable}
+use Rattle.text.specs.declared.programs.Instr.{Instr}
+use Rattle.text.specs.declared.programs.Program.{Program}
+use Rattle.text.specs.declared.programs.Programs.{Programs}
 use Rattle.text.specs.declared.trace.Event.{Event}
 use Rattle.text.specs.declared.schedule.Move.{Move}
 use Rattle.text.specs.declared.schedule.Move.the-variants.{Turn}
@@ -80,3 +84,31 @@ pub record ScheduleIs (s : List ℕ) (r : Lines) (moves arrivals : List ℕ) : T
   pub few : linesIn r ≤ 9362
   pub room : length moves ≡ 9362
   pub roomy : length arrivals ≡ 256
+
+-- what stands past the end of a program's array, and of the table
+abbrev pub noInstr : Instr
+noInstr = record { code = 0; a = 0; b = 0; c = 0 }
+
+abbrev pub noProgram : Program
+noProgram = record { number = 0; n = 0; code = [] }
+
+-- a program with just its n instructions
+abbrev pub trimmed : Program → Program
+trimmed p = record { number = p .number; n = p .n; code = take (p .n) (p .code) }
+
+unfoldable pub programAt : List Program → ℕ → Program
+programAt table i = trimmed (getD table i noProgram)
+
+unfoldable pub programsIn : Programs → Read (List Program)
+programsIn r = cond (r .ok) (readable (firsts (programAt (r .table)) (r .n))) (unreadable (r .line))
+
+-- n is at most 64, and nothing stands behind the n instructions
+pub record Bounded (p : Program) : Type 0 where
+  pub few : p .n ≤ 64
+  pub blank : (j : ℕ) → p .n ≤ j → getD (p .code) j noInstr ≡ noInstr
+
+pub record ProgramsIs (s : List ℕ) (r : Programs) : Type 0 where
+  pub read : programsIn r ≡ readPrograms s
+  pub few : r .n ≤ 16
+  pub bounded : (i : ℕ) → i < r .n → Bounded (getD (r .table) i noProgram)
+  pub room : length (r .table) ≡ 16

@@ -9,6 +9,7 @@ pub use kinds::Lines;
 pub use programs::Instr;
 pub use programs::Program;
 pub use programs::Programs;
+pub use programs::read_programs;
 pub use report::Entry;
 pub use report::Of;
 pub use report::Op;
