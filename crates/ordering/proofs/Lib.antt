@@ -5,3 +5,5 @@ pub mod Numbers
 pub mod Orders
 pub mod Chains
 pub mod Cycles
+pub mod Weaker
+pub mod FirstFree
