@@ -7,3 +7,8 @@ pub mod Chains
 pub mod Cycles
 pub mod Weaker
 pub mod FirstFree
+pub mod Links
+pub mod Search
+pub mod Pick
+pub mod Merging
+pub mod Items
