@@ -100,7 +100,7 @@ module _ {A : Type 0} (lane rid num : A → ℕ) where
   passes : (stage : ℕ → ℕ) (seen : List ℕ) (rest : List A) (x : A) (others : List A) →
       pick lane rid num stage seen rest ≡ took x others → Passed stage seen rest x others
   passes stage seen [] x others e = clash (cc)
-  passes stage seen (y ∷ ys) x others e = byBool (eqb (num y) (stage (rid y)) && not (among (lane y) seen))
+  passes stage seen (y ∷ ys) x others e = byBool (not (among (lane y) seen) && eqb (num y) (stage (rid y)))
       (λ t.
       let e′ : took y ys ≡ took x others = rw t at e in
       let i : y ≡ x = cc in
@@ -108,7 +108,7 @@ module _ {A : Type 0} (lane rid num : A → ℕ) where
       record { front = []; back = ys; split = ap (λ z. z ∷ ys) i; without = sym j; passed = λ z q _ o _. clash (cc) })
       (λ t. go t (pick lane rid num stage (lane y ∷ seen) ys) (passes stage (lane y ∷ seen) ys) (rw t at e))
     where
-      go : (eqb (num y) (stage (rid y)) && not (among (lane y) seen)) ≡ false → (o : Pick A) →
+      go : (not (among (lane y) seen) && eqb (num y) (stage (rid y))) ≡ false → (o : Pick A) →
           ((z : A) (zs : List A) → o ≡ took z zs → Passed stage (lane y ∷ seen) ys z zs) → keep y o ≡ took x others →
           Passed stage seen (y ∷ ys) x others
       go t stuck d k = clash (cc)

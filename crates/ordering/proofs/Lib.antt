@@ -12,3 +12,4 @@ pub mod Search
 pub mod Pick
 pub mod Merging
 pub mod Items
+mod Cases

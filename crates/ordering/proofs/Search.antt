@@ -86,10 +86,6 @@ least-of request number stage head n f a b e =
       least = λ j b. absurd (omega arith);
     }))
 
-pub leads-of : (request number stage head : List ℕ) (n : ℕ) (f : Front) → n ≤ length request → n ≤ length number →
-    f ≡ leastOf request number stage head n → f .lane < 17 → Leads (isNext request number stage) head n (f .lane) (f .item)
-leads-of request number stage head n f a b e = least-of request number stage head n f a b e .some
-
 -- ── the loop: its invariant, and a law for each way through its body ──
 module _ (request number stage head : List ℕ) (n : ℕ) where
   pub record Searching (found best l : ℕ) : Type 0 where
@@ -101,7 +97,12 @@ module _ (request number stage head : List ℕ) (n : ℕ) where
 
   pub searching-start : (best : ℕ) → best ≡ min n (min (length request) (length number)) → Searching 17 best 0
   unfolding leastOf
-  searching-start best e = record { requests = omega arith; numbers = omega arith; few = omega arith; rest = ap (λ b. search (isNext request number stage) head 17 0 (record { lane = 17; item = b })) e }
+  searching-start best e = record {
+    requests = omega arith;
+    numbers = omega arith;
+    few = omega arith;
+    rest = ap (λ b. search (isNext request number stage) head 17 0 (record { lane = 17; item = b })) e;
+  }
 
   -- x is the head of lane l, w its request's byte
   module _ (found best l x : ℕ) (s : l < 17) (e : x ≡ getD head l 0) (g : Searching found best l) where

@@ -33,6 +33,10 @@ mergeArrays lane request number out =
 abbrev pub overFront : List ℕ → List ℕ → List ℕ
 overFront xs out = xs ++ drop (length xs) out
 
+-- the array `out` behind the merge: the order over its front
+abbrev pub orderOver : List ℕ → List ℕ → List ℕ → List ℕ → List ℕ
+orderOver lane request number out = overFront (mergeArrays lane request number out .0) out
+
 -- how many items are taken and how many are left
 abbrev pub counts : List ℕ × List ℕ → Merged
 counts m = record { taken = length (m .0); left = length (m .1) }

@@ -3,7 +3,7 @@
 ghost use mathlib.Core.Path.{_≡_};
 ghost use Prim.Native.Nat.{min};
 ghost use lib.ListN.{length};
-ghost use Rattle.ordering.specs.Positions.{countOf, mergeArrays, overFront, counts};
+ghost use Rattle.ordering.specs.Positions.{countOf, mergeArrays, orderOver, counts};
 ghost use Rattle.ordering.specs.Heads.{linkOf, leastOf};
 
 fn wide(x: u8) -> usize
@@ -89,9 +89,8 @@ pub struct Merged {
 
 // The order, written over the front of `out` as positions. The items are as many as the shortest slice has, and no more than 1,152.
 pub fn merge(lane: &[u8], request: &[u8], number: &[u16], out: &mut [u16]) -> Merged
-    ensures order { λ r. ⌜ now (out .exit)
-        ≡ overFront (mergeArrays (now (lane .entry)) (now (request .entry)) (now (number .entry)) (now (out .entry)) .0) (now (out .entry)) ⌝ }
-    ensures taken { λ r. ⌜ r ≡ counts (mergeArrays (now (lane .entry)) (now (request .entry)) (now (number .entry)) (now (out .entry))) ⌝ }
+    ensures order { λ r. ⌜ now (out .exit) ≡ orderOver (now (lane .entry)) (now (request .entry)) (now (number .entry)) (now (out .entry)) ⌝ }
+    ensures counted { λ r. ⌜ r ≡ counts (mergeArrays (now (lane .entry)) (now (request .entry)) (now (number .entry)) (now (out .entry))) ⌝ }
 {
     let n = count(lane.len(), request.len(), number.len(), out.len());
     let mut head = [1152u16; 17];
