@@ -23,7 +23,7 @@ mergeOf lane request number n = merge (slot lane 17) (slot request 64) (value nu
 
 -- how many items there are: as many as the shortest array has, the one to write to among them, and no more than 1,152
 abbrev pub countOf : ℕ → ℕ → ℕ → ℕ → ℕ
-countOf a b c d = min (min a b) (min (min c d) 1152)
+countOf a b c d = min a (min b (min c (min d 1152)))
 
 abbrev pub mergeArrays : List ℕ → List ℕ → List ℕ → List ℕ → List ℕ × List ℕ
 mergeArrays lane request number out =

@@ -5,10 +5,10 @@ use Rattle.ordering.proofs.least.Statement.{statement}
 use Rattle.ordering.proofs.least.Tie as tie
 
 abbrev Inv-loop : tie.InvT-loop
-Inv-loop request number stage head n found₀ best₀ l₀ found best l = Searching request number stage head n found best l
+Inv-loop request number stage head n m found₀ best₀ l₀ found best l = Searching request number stage head n found best l
 
 abbrev μ-loop : tie.MeasureT-loop
-μ-loop request number stage head n found₀ best₀ l₀ found best l = 17 - l
+μ-loop request number stage head n m found₀ best₀ l₀ found best l = 17 - l
 
 loop-holds : tie.Need-loop-holds Inv-loop μ-loop
 loop-holds c = searching-start _ _ _ _ _ _ (search needs)
@@ -35,7 +35,6 @@ least-spec =
     (tie.spec
     Inv-loop
     μ-loop
-    (λ c κs. search needs)
     (λ c κs. search needs)
     loop-holds
     (λ c. search needs)

@@ -59,7 +59,7 @@ loop-again c = (
 
 returns-2 : tie.Need-returns-2 Inv-loop μ-loop
 returns-2 c =
-    merging-end _ _ _ (c .before .before .before .before .before .count .result) _ _ _ _ _ _ _ (search needs) (search needs) (c .before .loop .inv .1)
+    merging-end _ _ _ (c .before .before .before .before .before .fewest2 .result) _ _ _ _ _ _ _ (search needs) (search needs) (c .before .loop .inv .1)
 
 pub merge-spec : {M : Type 1} → statement M
 merge-spec =
@@ -67,6 +67,7 @@ merge-spec =
     (tie.spec
     Inv-loop
     μ-loop
+    (λ c κs. search needs)
     (λ c κs. search needs)
     (λ c κs. search needs)
     loop-holds
