@@ -8,7 +8,7 @@ use lib.Dec.{eqb}
 use lib.ListN.{getD, length}
 use native.Mathlib.Omega.{arith}
 use Rattle.ordering.specs.Lists.{All}
-use Rattle.ordering.specs.Order.{among, bump, IsOrder, Pick, stuck, took, keep, pick, merge}
+use Rattle.ordering.specs.Order.{among, bump, IsOrder, Pick, stuck, took, keep, pick, merge, mergeAll}
 use Rattle.ordering.specs.Positions.{upFrom, slot, value, mergeOf, counts}
 use Rattle.ordering.proofs.Basics.{byBool, byEq}
 use Rattle.ordering.proofs.Lanes.{all-lanes}
@@ -123,7 +123,7 @@ module _ {A : Type 0} (lane rid num : A → ℕ) (items : List A) (d : A) (lanes
         rid (item i) ≡ rid (item j)
 
   pub merge-items : Held →
-      merge lane rid num (length items) (λ r. 0) items ≡ both (λ i. getD items i d) (mergeOf lanes requests numbers (length items))
+      mergeAll lane rid num items ≡ both (λ i. getD items i d) (mergeOf lanes requests numbers (length items))
   unfolding mergeOf
   merge-items h =
       ap (merge lane rid num (length items) (λ r. 0)) (sym (map-up items d))

@@ -13,3 +13,4 @@ pub mod Pick
 pub mod Merging
 pub mod Items
 mod Cases
+pub mod Main

@@ -1,14 +1,13 @@
 -- The search over the heads finds the smallest that is next in its request.
-use mathlib.Core.Path.{_≡_, refl, sym, ap, subst, _∙_}
+use mathlib.Core.Path.{_≡_, refl, sym, ap, subst}
 use mathlib.Core.Bool.{Bool, true, false, cond, _&&_, and-false}
 use mathlib.Core.List.{List}
 use Prim.Native.Nat.{ℕ, zero, suc, _+_, _-_, _%_, _≤_, _<_, min}
-use lib.Dec.{eqb, ltb}
+use lib.Dec.{ltb}
 use lib.ListN.{getD, length}
 use native.Mathlib.Omega.{arith}
 use borrow.Author.Tests.{lt-ltb, le-ltb, ltb-true, ltb-false}
 use Rattle.ordering.specs.declared.Front.{Front}
-use Rattle.ordering.specs.Positions.{slot, value}
 use Rattle.ordering.specs.Heads.{isNext, search, leastOf}
 use Rattle.ordering.proofs.Basics.{byBool, byEq, clash, and-true, eqb-yes, eqb-no}
 

@@ -5,6 +5,7 @@ use mathlib.Core.Bool.{Bool, true, false, cond, _&&_, not}
 use mathlib.Core.List.{List, [], _∷_}
 use Prim.Native.Nat.{ℕ, zero, suc}
 use lib.Dec.{eqb}
+use lib.ListN.{length}
 use Rattle.ordering.specs.Choice.{choose}
 use Rattle.ordering.specs.Maps.{upd}
 
@@ -58,3 +59,7 @@ module _ {A : Type 0} (lane rid num : A → ℕ) where
     | stuck ↦ ([], rest)
     | took x xs ↦ (let m = merge n (bump stage (rid x)) xs in (x ∷ m .0, m .1))
   ]
+
+  -- the merge of all items, from the start
+  abbrev pub mergeAll : List A → List A × List A
+  mergeAll all = merge (length all) (λ r. 0) all
