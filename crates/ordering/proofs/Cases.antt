@@ -6,7 +6,7 @@ use mathlib.Core.List.{[], _∷_, _++_}
 use Prim.Native.Nat.{ℕ, suc, _-_, _%_, _/_}
 use lib.Dec.{ltb}
 use Rattle.ordering.specs.Order.{bump, merge}
-use Rattle.ordering.specs.Positions.{upFrom, mergeOf, orderOver}
+use Rattle.ordering.specs.Positions.{upFrom, mergeOf, orderIn}
 
 -- ── batches A, B and C ──
 -- C: two requests that run side by side; request 1, its write, request 2, its write, both reads, both responses
@@ -62,7 +62,7 @@ unfolding mergeOf bump
 beyond = refl
 
 -- the shortest array counts, and what stands behind the order stays
-short : orderOver (0 ∷ 0 ∷ 0 ∷ []) (0 ∷ 0 ∷ []) (0 ∷ 2 ∷ 1 ∷ []) (9 ∷ 9 ∷ 9 ∷ []) ≡ 0 ∷ 9 ∷ 9 ∷ []
+short : orderIn (0 ∷ 0 ∷ 0 ∷ []) (0 ∷ 0 ∷ []) (0 ∷ 2 ∷ 1 ∷ []) (9 ∷ 9 ∷ 9 ∷ []) ≡ 0 ∷ 9 ∷ 9 ∷ []
 unfolding mergeOf bump
 short = refl
 

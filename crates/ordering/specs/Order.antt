@@ -9,6 +9,7 @@ use lib.ListN.{length}
 use Rattle.ordering.specs.Choice.{choose}
 use Rattle.ordering.specs.Maps.{upd}
 
+-- whether a number stands in a list
 abbrev pub among : ℕ → List ℕ → Bool
 among n [] = false
 among n (m ∷ ms) = choose (eqb m n) true (λ _. among n ms)
@@ -36,6 +37,7 @@ pub data Pick (A : Type 0) : Type 0 where
   took : A → List A → Pick A
 
 module _ {A : Type 0} where
+  -- the same with x among the others
   abbrev pub keep : A → Pick A → Pick A
   keep x stuck = stuck
   keep x (took y ys) = took y (x ∷ ys)

@@ -1,9 +1,10 @@
-// The merge of items that stand in two queues each, a lane and a request: an item is taken when it is the first of its lane and next in its
-// request, the smallest position first.
+// The merge of items that stand in two queues each, a lane (0 the trace, 1 + o the log of object o) and a request: an item is taken when it
+// is the first of its lane and next in its request, the smallest position first. With the log lines in report order before the trace events,
+// a position is a report line or an event.
 ghost use mathlib.Core.Path.{_≡_};
 ghost use Prim.Native.Nat.{min};
 ghost use lib.ListN.{length};
-ghost use Rattle.ordering.specs.Positions.{mergeArrays, orderOver, counts};
+ghost use Rattle.ordering.specs.Positions.{orderIn, countsOf};
 ghost use Rattle.ordering.specs.Heads.{linkOf, leastOf};
 
 fn wide(x: u8) -> usize
@@ -88,8 +89,8 @@ pub struct Merged {
 
 // The order, written over the front of `out` as positions. The items are as many as the shortest slice has, and no more than 1,152.
 pub fn merge(lane: &[u8], request: &[u8], number: &[u16], out: &mut [u16]) -> Merged
-    ensures order { λ r. ⌜ now (out .exit) ≡ orderOver (now (lane .entry)) (now (request .entry)) (now (number .entry)) (now (out .entry)) ⌝ }
-    ensures counted { λ r. ⌜ r ≡ counts (mergeArrays (now (lane .entry)) (now (request .entry)) (now (number .entry)) (now (out .entry))) ⌝ }
+    ensures order { λ r. ⌜ now (out .exit) ≡ orderIn (now (lane .entry)) (now (request .entry)) (now (number .entry)) (now (out .entry)) ⌝ }
+    ensures counted { λ r. ⌜ r ≡ countsOf (now (lane .entry)) (now (request .entry)) (now (number .entry)) (now (out .entry)) ⌝ }
 {
     let n = fewest(
         lane.len(),

@@ -24,26 +24,44 @@ loop-holds c = (
 
 returns : tie.Need-returns Inv-loop μ-loop
 returns c =
-    merging-stop _ _ _ _ _ _ _ _ _ _ _ _ (search needs) (c .before .before .before .before .before .loop .inv .1) (c .before .least .ensures) (c .if1 .taken)
+    merging-stop _ _ _ _ _ _ _ _ _ _ _ _
+    (search needs) (c .before .before .before .before .before .loop .inv .1) (c .before .least .ensures) (c .if1 .taken)
 
 -- the item that was found is one of the n
 shared-slice-read-wide : tie.Need-shared-slice-read-wide Inv-loop μ-loop
-shared-slice-read-wide c =
-    omega (arith, merging-leads _ _ _ _ _ _ _ _ _ _ _ (c .before .before .before .before .before .before .loop .inv .1) (c .before .before .least .ensures) (c .before .if1 .left))
+shared-slice-read-wide c = omega (
+  arith,
+  merging-leads _ _ _ _ _ _ _ _ _ _ _
+      (c .before .before .before .before .before .before .loop .inv .1) (c .before .before .least .ensures) (c .before .if1 .left),
+)
 
 cast-out : tie.Need-cast-out Inv-loop μ-loop
 cast-out c = record {
-  fits = omega (arith, merging-leads _ _ _ _ _ _ _ _ _ _ _ (c .before .before .before .before .before .before .before .loop .inv .1) (c .before .before .before .least .ensures) (c .before .before .if1 .left));
+  fits = omega (
+    arith,
+    merging-leads _ _ _ _ _ _ _ _ _ _ _
+        (c .before .before .before .before .before .before .before .loop .inv .1)
+        (c .before .before .before .least .ensures) (c .before .before .if1 .left),
+  );
 }
 
 mul-head : tie.Need-mul-head Inv-loop μ-loop
 mul-head c = record {
-  fits = omega (arith, merging-leads _ _ _ _ _ _ _ _ _ _ _ (c .before .before .before .before .before .before .before .loop .inv .1) (c .before .before .before .least .ensures) (c .before .before .if1 .left));
+  fits = omega (
+    arith,
+    merging-leads _ _ _ _ _ _ _ _ _ _ _
+        (c .before .before .before .before .before .before .before .loop .inv .1)
+        (c .before .before .before .least .ensures) (c .before .before .if1 .left),
+  );
 }
 
 array-read-head : tie.Need-array-read-head Inv-loop μ-loop
-array-read-head c =
-    omega (arith, merging-leads _ _ _ _ _ _ _ _ _ _ _ (c .before .before .before .before .before .before .before .loop .inv .1) (c .before .before .before .least .ensures) (c .before .before .if1 .left))
+array-read-head c = omega (
+  arith,
+  merging-leads _ _ _ _ _ _ _ _ _ _ _
+      (c .before .before .before .before .before .before .before .loop .inv .1)
+      (c .before .before .before .least .ensures) (c .before .before .if1 .left),
+)
 
 add-stage : tie.Need-add-stage Inv-loop μ-loop
 add-stage c = record {
@@ -54,12 +72,14 @@ loop-again : tie.Need-loop-again Inv-loop μ-loop
 loop-again c = (
   simp length-set (c .before .before .before .before .before .before .before .loop .inv .0),
   merging-taken _ _ _ _ _ _ _ _ _ _ _ _ (search needs) (search needs)
-      (c .before .before .before .before .before .before .before .loop .inv .1) (c .before .before .before .least .ensures) (c .before .before .if1 .left),
+      (c .before .before .before .before .before .before .before .loop .inv .1)
+      (c .before .before .before .least .ensures) (c .before .before .if1 .left),
 )
 
 returns-2 : tie.Need-returns-2 Inv-loop μ-loop
 returns-2 c =
-    merging-end _ _ _ (c .before .before .before .before .before .fewest2 .result) _ _ _ _ _ _ _ (search needs) (search needs) (c .before .loop .inv .1)
+    merging-end _ _ _ (c .before .before .before .before .before .fewest2 .result) _ _ _ _ _ _ _
+    (search needs) (search needs) (c .before .loop .inv .1)
 
 pub merge-spec : {M : Type 1} → statement M
 merge-spec =
