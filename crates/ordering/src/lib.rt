@@ -1,6 +1,5 @@
 // The merge of items that stand in two queues each, a lane (0 the trace, 1 + o the log of object o) and a request: an item is taken when it
-// is the first of its lane and next in its request, the smallest position first. With the log lines in report order before the trace events,
-// a position is a report line or an event.
+// is the first of its lane and next in its request, the smallest position first. Log lines stand in report order before the trace events.
 ghost use mathlib.Core.Path.{_≡_};
 ghost use Prim.Native.Nat.{min};
 ghost use lib.ListN.{length};
