@@ -6,6 +6,7 @@ ghost use lib.ListN.{length};
 ghost use Rattle.ordering.specs.Positions.{orderIn, countsOf};
 ghost use Rattle.ordering.specs.Heads.{linkOf, leastOf};
 
+// A byte and a position as an index.
 fn wide(x: u8) -> usize
     ensures { λ r. ⌜ r ≡ x ⌝ }
 {
@@ -50,7 +51,8 @@ struct Front {
     item: usize,
 }
 
-// The smallest head of those that are next in their request; lane 17 if none is.
+// The smallest head of those that are next in their request; lane 17 if none is. Each way through the body counts on by itself, so that each
+// has its own proof.
 fn least(request: &[u8], number: &[u16], stage: &[u16; 64], head: &[u16; 17], n: usize) -> Front
     ensures { λ r. ⌜ r ≡ leastOf (now (request .entry)) (now (number .entry)) (now (stage .entry)) (now (head .entry)) n ⌝ }
 {
