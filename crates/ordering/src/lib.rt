@@ -51,8 +51,8 @@ struct Front {
     item: usize,
 }
 
-// The smallest head of those that are next in their request; lane 17 if none is. Each way through the body counts on by itself, so that each
-// has its own proof.
+// The smallest head of those that are next in their request; lane 17 if none is.
+// Each way through the body counts on by itself, so that each has its own proof.
 fn least(request: &[u8], number: &[u16], stage: &[u16; 64], head: &[u16; 17], n: usize) -> Front
     ensures { λ r. ⌜ r ≡ leastOf (now (request .entry)) (now (number .entry)) (now (stage .entry)) (now (head .entry)) n ⌝ }
 {
