@@ -1,0 +1,10 @@
+pub mod Choice
+pub mod Lists
+pub mod Maps
+pub mod Order
+pub mod Chain
+pub mod Before
+pub mod Whole
+pub mod FirstFree
+pub mod Positions
+pub mod Heads
