@@ -16,7 +16,7 @@ use Rattle.ordering.proofs.Basics.{clash, byBool, byEq, and-true, no-eqb, eqb-y
 use Rattle.ordering.proofs.Lists.{all-any}
 use Rattle.model.specs.Audit.{bad7, row7, allClaimed, bad8, row8}
 use Rattle.model.specs.Batch.{Batch, named, countOf, claims, claimed}
-use Rattle.model.proofs.Scans.{or-false, not-false, Clean, scan-clean, clean-scan}
+use Rattle.model.proofs.Scans.{false-or, not-false, Clean, scan-clean, clean-scan}
 
 -- a line's number is one of its request's operations
 pub record Counted (count : ℕ → ℕ) (l : Entry) : Type 0 where
@@ -64,14 +64,14 @@ fresh-unique : (l : Entry) (past ls : List Entry) → All (Fresh (l ∷ past)) l
     (claimed ls (l .rid) (l .num) ≡ false) × All (Fresh past) ls
 fresh-unique l past [] h = (refl, tt)
 fresh-unique l past (m ∷ ls) h =
-    let g = or-false (claims (m .rid) (m .num) l) (claimed past (m .rid) (m .num)) (h .0) in
+    let g = false-or (claims (m .rid) (m .num) l) (claimed past (m .rid) (m .num)) (h .0) in
     let t = fresh-unique l past ls (h .1) in
     (rw (sym (claims-sym l m) ∙ g .0) (t .0), (g .1, t .1))
 
 unique-fresh : (l : Entry) (past ls : List Entry) → claimed ls (l .rid) (l .num) ≡ false → All (Fresh past) ls → All (Fresh (l ∷ past)) ls
 unique-fresh l past [] u h = tt
 unique-fresh l past (m ∷ ls) u h =
-    let g = or-false (claims (l .rid) (l .num) m) (claimed ls (l .rid) (l .num)) u in
+    let g = false-or (claims (l .rid) (l .num) m) (claimed ls (l .rid) (l .num)) u in
     (rw (claims-sym l m ∙ g .0) (h .0), unique-fresh l past ls (g .1) (h .1))
 
 module _ (ofs : List Of) where
@@ -80,9 +80,9 @@ module _ (ofs : List Of) where
   clean7 past (l ∷ ls) h =
       let c = claimed past (l .rid) (l .num) in
       let above = ltb (countOf ofs (l .rid)) (l .num) in
-      let f = or-false (not (named ofs (l .rid))) (eqb (l .num) 0 || (above || c)) (h .0) in
-      let g = or-false (eqb (l .num) 0) (above || c) (f .1) in
-      let k = or-false above c (g .1) in
+      let f = false-or (not (named ofs (l .rid))) (eqb (l .num) 0 || (above || c)) (h .0) in
+      let g = false-or (eqb (l .num) 0) (above || c) (f .1) in
+      let k = false-or above c (g .1) in
       let n : l .num ≢ 0 = no-eqb (g .0) in
       let t = clean7 (l ∷ past) ls (h .1) in
       let u = fresh-unique l past ls (t .2) in

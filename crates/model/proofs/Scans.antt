@@ -9,9 +9,9 @@ use Rattle.ordering.specs.Lists.{All}
 use Rattle.ordering.proofs.Basics.{clash, byBool}
 use Rattle.model.specs.Checks.{Check, check, firstFault, firstBad}
 
-pub or-false : (a b : Bool) → (a || b) ≡ false → (a ≡ false) × (b ≡ false)
-or-false true b e = clash (cc)
-or-false false b e = (refl, e)
+pub false-or : (a b : Bool) → (a || b) ≡ false → (a ≡ false) × (b ≡ false)
+false-or true b e = clash (cc)
+false-or false b e = (refl, e)
 
 pub not-false : (b : Bool) → not b ≡ false → b ≡ true
 not-false true e = refl

@@ -13,7 +13,7 @@ use Rattle.ordering.specs.Lists.{All}
 use Rattle.ordering.proofs.Basics.{clash, byEq, eqb-yes}
 use Rattle.model.specs.Audit.{bad4, row4, unanswered, row4Open, row6From, row6}
 use Rattle.model.specs.Batch.{Batch, requested, answered}
-use Rattle.model.proofs.Scans.{or-false, not-false, Clean, scan-clean, clean-scan}
+use Rattle.model.proofs.Scans.{false-or, not-false, Clean, scan-clean, clean-scan}
 
 -- a rid is requested once, and a response closes an open request; `past` are the earlier events, latest first
 abbrev pub InOrder : List Event → List Event → Type 0
@@ -48,11 +48,11 @@ module _ (known : ℕ → Bool) where
   clean4 : (past es : List Event) → Clean (bad4 known) past es → InOrder past es × All (KnownIn known) es
   clean4 past [] h = (tt, tt)
   clean4 past (Request r prog a b ∷ es) h =
-      let g = or-false (requested r past) (not (known prog)) (h .0) in
+      let g = false-or (requested r past) (not (known prog)) (h .0) in
       let t = clean4 (Request r prog a b ∷ past) es (h .1) in
       ((g .0, t .0), (not-false (known prog) (g .1), t .1))
   clean4 past (Response r s v ∷ es) h =
-      let g = or-false (not (requested r past)) (answered r past) (h .0) in
+      let g = false-or (not (requested r past)) (answered r past) (h .0) in
       let t = clean4 (Response r s v ∷ past) es (h .1) in
       ((not-false (requested r past) (g .0), g .1, t .0), (tt, t .1))
 
