@@ -10,3 +10,7 @@ mod Passes
 mod Ahead
 mod Simulation
 mod Sound
+mod Runs
+mod Placed
+mod Complete
+mod Audited

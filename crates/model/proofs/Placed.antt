@@ -1,0 +1,159 @@
+-- An allowed order, with the report's lines for its operations, is an order of the batch's items.
+use mathlib.Core.Bool.{false}
+use mathlib.Core.List.{List, [], _∷_, _++_, map}
+use mathlib.Core.Path.{_≡_, refl, sym, ap, subst, _∙_}
+use Prim.Native.Nat.{ℕ, suc, _≤_}
+use native.Mathlib.Omega.{arith}
+use Rattle.text.specs.declared.report.Entry.{Entry}
+use Rattle.text.specs.declared.trace.Event.the-variants.{Request, Response}
+use Rattle.text.specs.declared.trace.Event.{Event}
+use Rattle.ordering.specs.Lists.{All, tally}
+use Rattle.ordering.specs.Maps.{upd}
+use Rattle.ordering.specs.Order.{bump, Numbered}
+use Rattle.ordering.specs.Whole.{keyed}
+use Rattle.ordering.proofs.Basics.{byBool, same-or, eqb-self, upd-same, upd-other}
+use Rattle.ordering.proofs.Lanes.{all-lanes, tally-lanes}
+use Rattle.ordering.proofs.Lists.{all-append, all-map, all-imp, all-any}
+use Rattle.ordering.proofs.Numbers.{bump-same, bump-other, tally-once}
+use Rattle.model.specs.Allowed.{eventsOf, Allowed}
+use Rattle.model.specs.Batch.{Batch, logOf, countOf, claims, claimed}
+use Rattle.model.specs.Machine.{Machine}
+use Rattle.model.specs.Nodes.{Node, ev, ln, itemOf, lane, rid, num, nodes, OrderOf}
+use Rattle.model.specs.PlainRun.{
+  Phase,
+  absent,
+  opened,
+  closed,
+  State,
+  initial,
+  arrived,
+  answerNow,
+  operated,
+  replied,
+  operationsOf,
+}
+use Rattle.model.specs.Replay.{claim}
+use Rattle.model.proofs.Ahead.{Ahead, foretold-log}
+use Rattle.model.proofs.Claims.{Unique}
+use Rattle.model.proofs.Nodes.{eventsIn, linesOf, same-lanes}
+use Rattle.model.proofs.Requests.{Named, events-named, ofs-counted}
+use Rattle.model.proofs.Runs.{Runs, ran, runs-logs, persist}
+use Rattle.model.proofs.Trace.{InOrder, Formed}
+
+module _ (M : Machine) where
+  open Machine M using (start, resume, pathAtEnd)
+
+  -- how many items of a request are done in a phase
+  abbrev stageOf : Phase M → ℕ
+  stageOf absent = 0
+  stageOf (opened p k) = suc k
+  stageOf (closed w n) = suc (suc n)
+
+  stage-upd : (stage : ℕ → ℕ) (phase : ℕ → Phase M) (r : ℕ) (f : Phase M) → ((q : ℕ) → stage q ≡ stageOf (phase q)) →
+      stageOf f ≡ suc (stage r) → (q : ℕ) → bump stage r q ≡ stageOf (upd phase r f q)
+  stage-upd stage phase r f h e q = same-or (λ q. bump stage r q ≡ stageOf (upd phase r f q)) r q
+      (rw (upd-same phase r f) (bump-same stage r r refl ∙ sym e))
+      (λ n _. rw (bump-other stage r q n, upd-other phase f n) (h q))
+
+  -- a run ends in the state t with as many operations of each request as it counts
+  module _ (cnt : ℕ → ℕ) (t : State M) where
+    abbrev pub Finished : Node → Type 0
+    Finished (ev e) = operationsOf M (t .phase (rid (ev e))) ≡ cnt (rid (ev e))
+    Finished (ln l) = Unit {0}
+
+    numbered : (ys : List Node) (s : State M) (stage : ℕ → ℕ) → Runs M ys s t → All Finished ys →
+        ((r : ℕ) → stage r ≡ stageOf (s .phase r)) → Numbered rid (num cnt) stage ys
+    numbered [] s stage h f g = tt
+    numbered (ev (Request r prog a b) ∷ ys) s stage h f g =
+        let e : stage r ≡ 0 = g r ∙ ap stageOf (h .0) in (
+          sym e,
+          numbered ys (arrived M s r prog a b) (bump stage r) (h .1) (f .1)
+              (stage-upd stage (s .phase) r (opened (start prog a b) 0) g (omega arith)),
+        )
+    numbered (ev (Response r u v) ∷ ys) s stage h f g =
+        let w = pathAtEnd (h .0) in
+        let e : stage r ≡ suc (h .1) = g r ∙ ap stageOf (h .2) in
+        let c = persist M ys (replied M s r (h .0) (h .1)) t r w (h .1) (h .4) (upd-same (s .phase) r (closed w (h .1))) in
+        let m : h .1 ≡ cnt r = sym (ap (operationsOf M) c) ∙ f .0 in (
+          omega arith,
+          numbered ys (replied M s r (h .0) (h .1)) (bump stage r) (h .4) (f .1)
+              (stage-upd stage (s .phase) r (closed w (h .1)) g (omega arith)),
+        )
+    numbered (ln l ∷ ys) s stage h f g =
+        let r = l .rid in
+        let e : stage r ≡ suc (h .1) = g r ∙ ap stageOf (h .3 .0) in (
+          ap (λ l. l .num) (h .3 .2) ∙ sym e,
+          numbered ys (operated M s r (suc (h .1)) (h .0) (h .2)) (bump stage r) (h .4) (f .1)
+              (stage-upd stage (s .phase) r (opened (resume (h .0) (answerNow M s (h .2))) (suc (h .1))) g (omega arith)),
+        )
+
+-- ── no number comes twice, so no operation is claimed twice ──
+module _ (cnt : ℕ → ℕ) (es : List Node) where
+  abbrev times : ℕ → ℕ → List Entry → ℕ
+  times r k ls = tally (keyed rid (num cnt) r k) (map ln ls ++ es)
+
+  none-claimed : (ls : List Entry) (r k : ℕ) → times r k ls ≡ 0 → claimed ls r k ≡ false
+  none-claimed [] r k e = refl
+  none-claimed (l ∷ ls) r k e = byBool (claims r k l)
+      (λ d. let e′ = rw d at e in absurd (omega arith))
+      (λ d. rw d (none-claimed ls r k (let e′ = rw d at e in omega arith)))
+
+  unique : (ls : List Entry) → ((r k : ℕ) → times r k ls ≤ 1) → Unique ls
+  unique [] h = tt
+  unique (l ∷ ls) h =
+      let e = rw (eqb-self (l .rid), eqb-self (l .num)) at (h (l .rid) (l .num)) in
+      (none-claimed ls (l .rid) (l .num) (omega arith), unique ls (λ r k. omega (arith, h r k)))
+
+module _ (M : Machine) (opening : ℕ → M .Content) (b : Batch) where
+  abbrev cnt : ℕ → ℕ
+  cnt = countOf (b .ofs)
+
+  pub record Placed (a : Allowed M opening b) : Type 0 where
+    pub items : List Node
+    pub order : map itemOf items ≡ a .order
+    pub runs : Runs M items (initial M opening) (a .final)
+    pub events : eventsIn items ≡ b .trace
+    pub lines : (o : ℕ) → linesOf o items ≡ logOf o (b .log)
+    pub finished : All (Finished M (countOf (b .ofs)) (a .final)) items
+    pub placed : OrderOf b items
+
+  pub place : Formed b → (a : Allowed M opening b) → Placed a
+  place f a =
+      let r = ran M (a .order) [] (initial M opening) (a .final) (subst (InOrder []) (sym (a .events)) (f .inOrder)) (λ r _. refl) (a .runs) in
+      let ee = ap eventsOf (r .items) ∙ a .events in
+      let le : (o : ℕ) → linesOf o (r .nodes) ≡ logOf o (b .log) =
+      λ o. sym (runs-logs M (r .nodes) (initial M opening) (a .final) (r .runs) o) ∙ a .logs o in
+      let lanes = same-lanes b (r .nodes) ee le in
+      let fi = all-lanes lane Fin (r .nodes) (nodes b) lanes (all-append Fin (map ln (b .log)) (map ev (b .trace))
+      (all-map Fin ln (b .log) (all-any (λ l. Unit {0}) (λ l. tt) (b .log)))
+      (all-map Fin ev (b .trace) (all-imp (λ e. Named b (rid (ev e))) (λ e. Fin (ev e)) (λ e n. named-fin (rid (ev e)) n) (b .trace)
+      (events-named b f)))) in
+      record {
+        items = r .nodes;
+        order = r .items;
+        runs = r .runs;
+        events = ee;
+        lines = le;
+        finished = fi;
+        placed = record {
+          lanes = lanes;
+          numbered = numbered M cnt (a .final) (r .nodes) (initial M opening) (λ r. 0) (r .runs) fi (λ r. refl);
+        };
+      }
+    where
+      Fin : Node → Type 0
+      Fin = Finished M cnt (a .final)
+
+      named-fin : (q : ℕ) → Named b q → operationsOf M (a .final .phase q) ≡ cnt q
+      named-fin q n = subst (λ q. operationsOf M (a .final .phase q) ≡ cnt q) (n .2)
+          (a .counts (n .0) (n .1) ∙ sym (ofs-counted b f (n .0) (n .1)))
+
+  module _ (a : Allowed M opening b) (p : Placed a) where
+    pub placed-unique : Unique (b .log)
+    placed-unique = unique cnt (map ev (b .trace)) (b .log) (λ r k. subst (λ n. n ≤ 1)
+        (tally-lanes lane (keyed rid (num cnt) r k) (p .items) (nodes b) (p .placed .lanes))
+        (tally-once rid (num cnt) r k (p .items) (λ r. 0) (p .placed .numbered)))
+
+    pub placed-ahead : Ahead M (claim M (b .log) opening) (initial M opening) (p .items)
+    placed-ahead o =
+        rw (p .lines o) (foretold-log M (claim M (b .log) opening) (b .log) opening placed-unique (λ r k _. refl) o)
