@@ -14,3 +14,7 @@ mod Runs
 mod Placed
 mod Complete
 mod Audited
+mod Report
+mod Faithful
+mod Recorded
+mod Ranges
