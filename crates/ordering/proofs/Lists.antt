@@ -86,6 +86,26 @@ module _ {A : Type 0} (f : A → Bool) where
       split-unique p (l .front ++ y ∷ l .between) x q (l .back) g (subst (λ t. tally f t ≤ 1) e t) (sym e ∙ s) in
       subst (List·Memᴰ y) (sym u) (Memᴰ·append-right (l .front) (List·Memᴰ·head refl))
 
+  -- no item is later than itself, and what is later than an item is later than those before it
+  pub not-later : (xs : List A) (x : A) → f x ≡ true → tally f xs ≤ 1 → Later xs x x → ⊥
+  not-later xs x g t l =
+      let u = subst (λ t. tally f t ≤ 1) (l .split) t in
+      let v = rw (tally-append (l .front) (x ∷ (l .between ++ x ∷ l .back)), tally-append (l .between) (x ∷ l .back), g) at u in omega arith
+
+  pub later-next : (xs : List A) (z y x : A) → f y ≡ true → tally f xs ≤ 1 → Later xs z y → Neighbours xs y x → Later xs z x
+  later-next xs z y x g t l n =
+      let s : xs ≡ (l .front ++ z ∷ l .between) ++ y ∷ l .back = l .split ∙ sym (append-assoc (l .front) (z ∷ l .between) (y ∷ l .back)) in
+      let p : l .front ++ z ∷ l .between ≡ n .front =
+      split-unique (l .front ++ z ∷ l .between) (n .front) y (l .back) (x ∷ n .back) g (subst (λ t. tally f t ≤ 1) s t)
+      (sym s ∙ n .split) in
+      record {
+        front = l .front;
+        between = l .between ++ (y ∷ []);
+        back = n .back;
+        split = n .split ∙ ap (λ t. t ++ y ∷ x ∷ n .back) (sym p) ∙ append-assoc (l .front) (z ∷ l .between) (y ∷ x ∷ n .back)
+            ∙ ap (λ t. l .front ++ z ∷ t) (sym (append-assoc (l .between) (y ∷ []) (x ∷ n .back)));
+      }
+
 -- ── neighbours and later items ──
 module _ {A : Type 0} where
   pub later-mem : (xs : List A) (y x : A) → Later xs y x → List·Memᴰ x xs

@@ -5,3 +5,5 @@ pub mod Chain
 pub mod Before
 pub mod Whole
 pub mod FirstFree
+pub mod Positions
+pub mod Heads
