@@ -35,6 +35,7 @@ use Rattle.ordering.proofs.Lists.{mem-all, tally-append}
 use Rattle.model.specs.Batch.{Batch, requested, answered, countOf, claims, claimed}
 use Rattle.model.specs.Nodes.{Node, ev, ln, lane, rid, num, nodes}
 use Rattle.model.proofs.Claims.{Counted, Unique, Reported, counted-mem}
+use Rattle.model.proofs.Mapped.{later-map}
 use Rattle.model.proofs.Nodes.{nodes-events}
 use Rattle.model.proofs.Requests.{OfRequest, request-of, Named, events-named, ofs-counted}
 use Rattle.model.proofs.Trace.{InOrder, Formed}
@@ -176,15 +177,6 @@ answered-later past (e ∷ es) r prog x y s v o m k =
     at (inr m) (inr k) ih =
         let h = ih m k in
         record { front = e ∷ h .front; between = h .between; back = h .back; split = ap (λ t. e ∷ t) (h .split) }
-
-later-map : {A B : Type 0} (f : A → B) (xs : List A) (y x : A) → Later xs y x → Later (map f xs) (f y) (f x)
-later-map f xs y x l = record {
-  front = map f (l .front);
-  between = map f (l .between);
-  back = map f (l .back);
-  split = ap (map f) (l .split) ∙ map-append f (l .front) (y ∷ (l .between ++ x ∷ l .back))
-      ∙ ap (λ t. map f (l .front) ++ f y ∷ t) (map-append f (l .between) (x ∷ l .back));
-}
 
 -- ── an item and the one before it ──
 claimed-line : (ls : List Entry) (r k : ℕ) → claimed ls r k ≡ true → (l : Entry) × List·Memᴰ l ls × (l .rid ≡ r) × (l .num ≡ k)

@@ -3,6 +3,7 @@ mod Trace
 mod Claims
 mod Nodes
 mod Requests
+mod Mapped
 mod Items
 mod Precedes
 mod Equal
@@ -18,3 +19,5 @@ mod Report
 mod Faithful
 mod Recorded
 mod Ranges
+mod Weaker
+mod Printed
