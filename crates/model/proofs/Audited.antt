@@ -45,7 +45,7 @@ no-fault n cs h e = fault-clear n cs [] h (ap (λ cs. firstFault cs .number) (ap
 pub rows-formed : (known : ℕ → Bool) (b : Batch) → row4 known (b .trace) ≡ none → row6 b ≡ none → Formed b
 rows-formed known b e d = record { inOrder = row4-order known (b .trace) .0 e .0; matching = row6-matching b .0 d }
 
-module _ (M : Machine) (opening : ℕ → M .Content) (b : Batch) (known : ℕ → Bool) where
+module _ (M : Machine) (opening : ℕ → M .Content) (known : ℕ → Bool) (b : Batch) where
   abbrev checks : List Check
   checks = traceChecks known (b .trace) ++ reportChecks M opening b
 
@@ -71,7 +71,7 @@ module _ (M : Machine) (opening : ℕ → M .Content) (b : Batch) (known : ℕ �
   pub accepted-formed : Accepted → Formed b
   accepted-formed h = rows-formed known b (h .lines4) (h .ofs6)
 
-  pub audit-accepted : (audit M opening b known ≡ verdict 0 0) ↔ Accepted
+  pub audit-accepted : (audit M opening known b ≡ verdict 0 0) ↔ Accepted
   unfolding audit
   audit-accepted = (
     λ e.
@@ -87,7 +87,7 @@ module _ (M : Machine) (opening : ℕ → M .Content) (b : Batch) (known : ℕ �
         (h .lines4, (h .answered4, (h .ofs6, (r .0, (r .1, (r .2, r .3)))))),
   )
 
-  pub audit-demand : (audit M opening b known ≡ verdict 0 0) ↔ Demand3 M opening known b
+  pub audit-demand : (audit M opening known b ≡ verdict 0 0) ↔ Demand3 M opening known b
   audit-demand = (
     λ e.
         let h = audit-accepted .0 e in
@@ -108,7 +108,7 @@ module _ (M : Machine) (opening : ℕ → M .Content) (b : Batch) (known : ℕ �
   )
 
   -- ── verdict 9 ──
-  pub audit-left : (audit M opening b known ≡ verdict 9 0) ↔ (NoneTo8 known b × (mergeOf b .1 ≢ []))
+  pub audit-left : (audit M opening known b ≡ verdict 9 0) ↔ (NoneTo8 known b × (mergeOf b .1 ≢ []))
   unfolding audit
   audit-left = (
     λ e.
@@ -132,7 +132,7 @@ module _ (M : Machine) (opening : ℕ → M .Content) (b : Batch) (known : ℕ �
       found [] n = absurd (n refl)
       found (x ∷ xs) n = refl
 
-  pub audit-nine : (audit M opening b known ≡ verdict 9 0) ↔ (NoneTo8 known b × Returns b)
+  pub audit-nine : (audit M opening known b ≡ verdict 9 0) ↔ (NoneTo8 known b × Returns b)
   audit-nine = (
     λ e. let h = audit-left .0 e in (h .0, returns (h .0) .0 (h .1)),
     λ h. audit-left .1 (h .0, returns (h .0) .1 (h .1)),

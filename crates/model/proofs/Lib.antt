@@ -21,3 +21,7 @@ mod Recorded
 mod Ranges
 mod Weaker
 mod Printed
+mod Closing
+mod Answers
+mod Orders
+pub mod Main

@@ -232,8 +232,8 @@ module _ (M : Machine) (known : ℕ → Bool) (limit : ℕ) where
     recorded-demand ms b e = wrote-demand ms b (recorded-wrote objects opening ms b e)
 
     pub recorded-accepted : (ms : List Move) (b : Batch) → recorded M known limit objects opening ms ≡ made b →
-        audit M opening b known ≡ verdict 0 0
-    recorded-accepted ms b e = audit-demand M opening b known .1 (recorded-demand ms b e)
+        audit M opening known b ≡ verdict 0 0
+    recorded-accepted ms b e = audit-demand M opening known b .1 (recorded-demand ms b e)
 
     -- the operations are counted as log lines
     abbrev Few : List Move → Host M → Type 0

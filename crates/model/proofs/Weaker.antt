@@ -61,11 +61,11 @@ merge-weakly b f h =
     let k = cycles b h (answers-agree b) in
     (λ e. k .1 (n .0 e), λ r. n .1 (k .0 r))
 
-pub audit-nine-weaker : (M : Machine) (opening : ℕ → M .Content) (b : Batch) (known : ℕ → Bool) →
-    (audit M opening b known ≡ verdict 9 0) ↔ (NoneTo8 known b × ReturnsWeakly b)
-audit-nine-weaker M opening b known = (
-  λ e. let h = audit-left M opening b known .0 e in (h .0, returns (h .0) .0 (h .1)),
-  λ h. audit-left M opening b known .1 (h .0, returns (h .0) .1 (h .1)),
+pub audit-nine-weaker : (M : Machine) (opening : ℕ → M .Content) (known : ℕ → Bool) (b : Batch) →
+    (audit M opening known b ≡ verdict 9 0) ↔ (NoneTo8 known b × ReturnsWeakly b)
+audit-nine-weaker M opening known b = (
+  λ e. let h = audit-left M opening known b .0 e in (h .0, returns (h .0) .0 (h .1)),
+  λ h. audit-left M opening known b .1 (h .0, returns (h .0) .1 (h .1)),
 )
   where
     returns : NoneTo8 known b → (mergeOf b .1 ≢ []) ↔ ReturnsWeakly b
