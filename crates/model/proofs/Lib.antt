@@ -1,27 +1,29 @@
-mod Scans
-mod Trace
-mod Claims
-mod Nodes
-mod Requests
-mod Mapped
-mod Items
-mod Precedes
-mod Equal
-mod Passes
-mod Ahead
-mod Simulation
-mod Sound
-mod Runs
-mod Placed
-mod Complete
-mod Audited
-mod Report
-mod Faithful
-mod Recorded
-mod Ranges
-mod Weaker
-mod Printed
-mod Closing
-mod Answers
-mod Orders
+pub mod Scans
+pub mod Trace
+pub mod Claims
+pub mod Nodes
+pub mod Requests
+pub mod Mapped
+pub mod Items
+pub mod Precedes
+pub mod Equal
+pub mod Passes
+pub mod Ahead
+pub mod Simulation
+pub mod Sound
+pub mod Runs
+pub mod Placed
+pub mod Complete
+pub mod Audited
+pub mod Report
+pub mod Faithful
+pub mod Recorded
+pub mod Ranges
+pub mod Weaker
+pub mod Printed
+pub mod Closing
+pub mod Answers
+pub mod Orders
 pub mod Main
+mod Example
+mod Cases
