@@ -1,7 +1,7 @@
 -- The lines still to come in a run are claimed as the replays look them up: each line at the content that its object will hold then.
 use mathlib.Core.Bool.{true, false}
 use mathlib.Core.List.{List, [], _∷_}
-use mathlib.Core.Path.{_≡_, refl, ap, _∙_}
+use mathlib.Core.Path.{_≡_, ap, _∙_}
 use Prim.Native.Nat.{ℕ, suc}
 use lib.Dec.{eqb}
 use Rattle.text.specs.declared.report.Entry.{Entry}

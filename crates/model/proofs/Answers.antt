@@ -15,7 +15,7 @@ use Rattle.model.specs.Answers.{answerOf}
 use Rattle.model.specs.Batch.{Batch, claims}
 use Rattle.model.specs.Machine.{Machine}
 use Rattle.model.specs.Nodes.{Node, ev, ln, itemOf, lane, nodes}
-use Rattle.model.specs.PlainRun.{operation, State, initial, arrived, answerNow, lineNow, operated, replied}
+use Rattle.model.specs.PlainRun.{State, initial, arrived, lineNow, operated, replied}
 use Rattle.model.specs.Replay.{Claim, unclaimed, by, claim}
 use Rattle.model.proofs.Ahead.{Ahead, ahead-next}
 use Rattle.model.proofs.Placed.{place, placed-ahead}

@@ -3,13 +3,12 @@ use mathlib.Core.Bool.{Bool}
 use mathlib.Core.List.{List, [], _∷_, _++_, append-nil}
 use mathlib.Core.Logic.{_≢_, _↔_}
 use mathlib.Core.Option.{none}
-use mathlib.Core.Path.{_≡_, refl, sym, ap, subst, _∙_}
+use mathlib.Core.Path.{_≡_, refl, sym, ap, _∙_}
 use Prim.Native.Nat.{ℕ, suc}
 use native.Mathlib.Omega.{arith}
 use Rattle.text.specs.declared.report.Of.{Of}
 use Rattle.ordering.specs.Lists.{All}
 use Rattle.ordering.proofs.Lists.{all-append}
-use Rattle.model.specs.Allowed.{Allowed}
 use Rattle.model.specs.Audit.{
   row4,
   row4Open,
@@ -80,7 +79,12 @@ module _ (M : Machine) (opening : ℕ → M .Content) (known : ℕ → Bool) (b 
         (λ i. omega arith, replay-rows 0 (λ i. omega arith) (λ i. omega arith) (λ i. omega arith) 1 (b .ofs)))
         (ap (λ v. v .number) e) .0 in
         let r = c .1 .1 .1 in
-        record { lines4 = c .0; answered4 = c .1 .0; ofs6 = c .1 .1 .0; passes = rows-passes M opening b .0 (r .0, r .1 .0, r .1 .1 .0, r .1 .1 .1) },
+        record {
+          lines4 = c .0;
+          answered4 = c .1 .0;
+          ofs6 = c .1 .1 .0;
+          passes = rows-passes M opening b .0 (r .0, r .1 .0, r .1 .1 .0, r .1 .1 .1);
+        },
     λ h.
         let r = rows-passes M opening b .1 (h .passes) in
         ap firstFault (sym (append-nil checks)) ∙ clear-fault checks []

@@ -1,4 +1,5 @@
--- 01's batches and the small examples of its table on parsed batches, with their lines: one table for the audit, one for the host, each with one proof.
+-- 01's batches and the small examples of its table, on parsed batches, with their lines: a table for the audit and one for the host, each
+-- with one proof.
 use mathlib.Core.Bool.{Bool}
 use mathlib.Core.List.{List, [], _∷_, map}
 use mathlib.Core.Path.{_≡_, refl}
@@ -21,7 +22,7 @@ use Rattle.model.specs.Bounds.{Bounded}
 use Rattle.model.specs.Checks.{Verdict, verdict}
 use Rattle.model.specs.Host.{Result, fault, made, recorded}
 use Rattle.model.specs.Machine.{Machine}
-use Rattle.model.specs.Nodes.{Node, ev, ln, mergeOf}
+use Rattle.model.specs.Nodes.{ev, ln, mergeOf}
 use Rattle.model.specs.Ranges.{FitMove, FitBatch}
 use Rattle.model.proofs.Example.{machine, FitProgram, within, bounded, zero-fit}
 use Rattle.model.proofs.Main.{host-accepted, host-in-range}
@@ -129,7 +130,11 @@ records =
     ∷ (Arrive 1 0 0 0 ∷ [], 1024, fault 15 1)
     ∷ (Arrive 1 0 0 0 ∷ Turn 1 ∷ Turn 1 ∷ Turn 1 ∷ Arrive 3 1 0 0 ∷ Arrive 2 1 0 0 ∷ [], 1024, fault 15 5)
     -- a turn after the response does nothing
-    ∷ (Arrive 1 0 0 0 ∷ Turn 1 ∷ Turn 1 ∷ Turn 1 ∷ Turn 1 ∷ [], 1024, made (batch single (of 1 0 2 ∷ []) (log 0 1 1 7 0 1 ∷ log 1 1 2 6 0 0 ∷ [])))
+    ∷ (
+      Arrive 1 0 0 0 ∷ Turn 1 ∷ Turn 1 ∷ Turn 1 ∷ Turn 1 ∷ [],
+      1024,
+      made (batch single (of 1 0 2 ∷ []) (log 0 1 1 7 0 1 ∷ log 1 1 2 6 0 0 ∷ [])),
+    )
     ∷ []
 
 records-come-out : map (λ c. recorded M known (c .1) 16 zeros (c .0)) records ≡ map (λ c. c .2) records
@@ -149,7 +154,7 @@ example-accepted = host-accepted M zeros known 1024 16 (within (both 0 1 ∷ bot
 abbrev bounds : Bounded M
 bounds = bounded (both 0 1 ∷ both 1 0 ∷ []) fit
 
-example-in-range : (ms : List Move) → All (FitMove M bounds (λ r. r < 65_536)) ms → (b : Batch) → recorded M known 1024 16 zeros ms ≡ made b →
-    FitBatch M bounds (λ r. r < 65_536) 1024 ms b
+example-in-range : (ms : List Move) → All (FitMove M bounds (λ r. r < 65_536)) ms → (b : Batch) →
+    recorded M known 1024 16 zeros ms ≡ made b → FitBatch M bounds (λ r. r < 65_536) 1024 ms b
 example-in-range = host-in-range M zeros known 1024 16 (within (both 0 1 ∷ both 1 0 ∷ []) fit) bounds (λ r. r < 65_536)
     (λ o. zero-fit (both 0 1 ∷ both 1 0 ∷ []) fit)

@@ -1,5 +1,5 @@
 -- Rows 7 and 8 as facts of `of` and `log` lines.
-use mathlib.Core.Bool.{Bool, true, false, _&&_, _||_, not}
+use mathlib.Core.Bool.{true, false, _||_, not}
 use mathlib.Core.List.{List, [], _∷_, List·Memᴰ, List·Memᴰ·head, List·Memᴰ·tail}
 use mathlib.Core.Logic.{_≢_, _↔_}
 use mathlib.Core.Option.{none}
@@ -12,7 +12,7 @@ use native.Mathlib.Omega.{arith}
 use Rattle.text.specs.declared.report.Entry.{Entry}
 use Rattle.text.specs.declared.report.Of.{Of}
 use Rattle.ordering.specs.Lists.{All}
-use Rattle.ordering.proofs.Basics.{clash, byBool, byEq, and-true, no-eqb, eqb-yes, eqb-no}
+use Rattle.ordering.proofs.Basics.{byBool, byEq, and-true, no-eqb, eqb-yes, eqb-no}
 use Rattle.ordering.proofs.Lists.{all-any}
 use Rattle.model.specs.Audit.{bad7, row7, allClaimed, bad8, row8}
 use Rattle.model.specs.Batch.{Batch, named, countOf, claims, claimed}

@@ -16,7 +16,7 @@ use Rattle.ordering.specs.Lists.{All}
 use Rattle.ordering.specs.Maps.{upd}
 use Rattle.ordering.proofs.Basics.{clash, byBool, byEq, same-or, upd-same, upd-at, upd-other}
 use Rattle.ordering.proofs.Lanes.{all-lanes}
-use Rattle.ordering.proofs.Lists.{all-append-left, all-unmap, all-mem, mem-all}
+use Rattle.ordering.proofs.Lists.{all-append-left, all-unmap, all-mem}
 use Rattle.ordering.proofs.Orders.{order-merge}
 use Rattle.model.specs.Allowed.{Allowed}
 use Rattle.model.specs.Batch.{Batch, countOf, firstOf, claims, claimed}
@@ -79,8 +79,8 @@ module _ (M : Machine) (cnt : ℕ → ℕ) (t : State M) where
   abbrev Counting : State M → Type 0
   Counting s = (r : ℕ) → (s .phase r ≡ absent) ⊎ (operationsOf M (t .phase r) ≡ cnt r)
 
-  counting-upd : (s s′ : State M) (r : ℕ) (f : Phase M) → s′ .phase ≡ upd (s .phase) r f → Counting s → operationsOf M (t .phase r) ≡ cnt r →
-      Counting s′
+  counting-upd : (s s′ : State M) (r : ℕ) (f : Phase M) → s′ .phase ≡ upd (s .phase) r f → Counting s →
+      operationsOf M (t .phase r) ≡ cnt r → Counting s′
   counting-upd s s′ r f i k g q = subst (λ h. (h q ≡ absent) ⊎ (operationsOf M (t .phase q) ≡ cnt q)) (sym i)
       (same-or (λ q. (upd (s .phase) r f q ≡ absent) ⊎ (operationsOf M (t .phase q) ≡ cnt q)) r q (inr g)
       (λ n _. rw (upd-other (s .phase) f n) (k q)))
@@ -131,13 +131,15 @@ module _ (M : Machine) (opening : ℕ → M .Content) (b : Batch) (t : State M) 
       let c : compare M o (F r (suc k)) ≡ right (answerNow M s o) = rw f (rw (op-same (lineNow M s r (suc k) o .op))) in
       rw (a, replay, c) h
 
-  replay-end : (r : ℕ) (p : Process) (k u v : ℕ) → rep r ≡ said u v → advance p ≡ stop u v → t .phase r ≡ closed (pathAtEnd p) k → Replays r p k
+  replay-end : (r : ℕ) (p : Process) (k u v : ℕ) → rep r ≡ said u v → advance p ≡ stop u v → t .phase r ≡ closed (pathAtEnd p) k →
+      Replays r p k
   replay-end r p k u v a z c = record { left = 0; sum = rw c (omega arith); ends = rw (c, a, z) }
 
   -- the claim of a line that is carried out, and what is ahead of it
   ahead-line : (l : Entry) (ys : List Node) (s : State M) (k : ℕ) (p : Process) (o : Op) → l ≡ lineNow M s (l .rid) (suc k) o →
       Ahead M F s (ln l ∷ ys) →
-      (F (l .rid) (suc k) ≡ by (lineNow M s (l .rid) (suc k) o) (s .contents (o .object))) × Ahead M F (operated M s (l .rid) (suc k) p o) ys
+      (F (l .rid) (suc k) ≡ by (lineNow M s (l .rid) (suc k) o) (s .contents (o .object)))
+      × Ahead M F (operated M s (l .rid) (suc k) p o) ys
   ahead-line l ys s k p o e ah = ahead-next M F s (l .rid) k p o ys (subst (λ l. Ahead M F s (ln l ∷ ys)) e ah)
 
   replays : (ys : List Node) (s : State M) → Runs M ys s t → Ahead M F s ys → (r : ℕ) (p : Process) (k : ℕ) →
@@ -292,7 +294,8 @@ module _ (M : Machine) (opening : ℕ → M .Content) (b : Batch) (f : Formed b)
   passed : (x : Of) → List·Memᴰ x (b .ofs) → Passed M opening b x
   passed x m =
       let l = first (b .ofs) x m in
-      let e : outcome M opening b (firstOf (b .ofs) (x .group)) ≡ ended (responseOf (b .trace) (firstOf (b .ofs) (x .group))) (a .groupPath (x .group)) =
+      let r = firstOf (b .ofs) (x .group) in
+      let e : outcome M opening b r ≡ ended (responseOf (b .trace) r) (a .groupPath (x .group)) =
       subst₂ (λ r g. outcome M opening b r ≡ ended (responseOf (b .trace) r) (a .groupPath g)) (l .is) (l .group)
       (ended-group (l .of) (l .mem)) in
       record { path = a .groupPath (x .group); replayed = ended-group x m; grouped = subst (Along (a .groupPath (x .group))) (sym e) refl }

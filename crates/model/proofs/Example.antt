@@ -1,5 +1,6 @@
--- A small machine for computed examples: a program is a list of operations, its reply the last answer. It keeps the bounds that the theorems ask.
-use mathlib.Core.Bool.{Bool, true, false, cond, _||_}
+-- A small machine for computed examples, which keeps the bounds that the theorems ask: a program is a list of operations, and replies with
+-- the last answer.
+use mathlib.Core.Bool.{Bool, cond, _||_}
 use mathlib.Core.List.{List, [], _∷_, _++_}
 use mathlib.Core.Path.{_≡_, refl, subst}
 use Prim.Native.Nat.{ℕ, zero, suc, _+_, _^_, _≤_, _<_}

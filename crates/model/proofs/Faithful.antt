@@ -1,10 +1,10 @@
 -- Between two lines of the schedule the host's state and trace are those of an order; and so the batch that it writes is allowed.
 use mathlib.Core.Bool.{Bool, true, false, _||_, or-true, or-false}
 use mathlib.Core.List.{List, [], _∷_, _++_, append-nil}
-use mathlib.Core.Logic.{_⊎_, inr}
+use mathlib.Core.Logic.{inr}
 use mathlib.Core.Option.{Option, none, some}
 use mathlib.Core.Path.{_≡_, refl, sym, ap, _∙_}
-use Prim.Native.Nat.{ℕ, suc, _+_, _≤_, _<_}
+use Prim.Native.Nat.{ℕ, suc, _≤_, _<_}
 use borrow.Author.Tests.{ltb-true, ltb-false}
 use lib.Dec.{eqb, ltb}
 use native.Mathlib.Omega.{arith}
@@ -16,7 +16,7 @@ use Rattle.ordering.specs.Maps.{upd}
 use Rattle.ordering.proofs.Basics.{clash, byBool, byEq, same-or, eqb-self, upd-same, upd-at, upd-other}
 use Rattle.ordering.proofs.Lists.{all-append}
 use Rattle.model.specs.Allowed.{eventsOf, Allowed}
-use Rattle.model.specs.Batch.{Batch, requested, answered, firstOf}
+use Rattle.model.specs.Batch.{requested, answered, firstOf}
 use Rattle.model.specs.Host.{logsFrom, ofsFrom}
 use Rattle.model.specs.Machine.{op, stop, Machine}
 use Rattle.model.specs.PlainRun.{
@@ -69,8 +69,8 @@ add-request past (Response q s v ∷ es) r prog a b o n m =
     (o .0, o .1, add-request (Response q s v ∷ past) es r prog a b (o .2) n m)
 
 -- the response of an open request
-add-response : (past es : List Event) (r s v : ℕ) → InOrder past es → (requested r past || requested r es) ≡ true → answered r past ≡ false →
-    answered r es ≡ false → InOrder past (es ++ (Response r s v ∷ []))
+add-response : (past es : List Event) (r s v : ℕ) → InOrder past es → (requested r past || requested r es) ≡ true →
+    answered r past ≡ false → answered r es ≡ false → InOrder past (es ++ (Response r s v ∷ []))
 add-response past [] r s v o a n m = (sym (or-false (requested r past)) ∙ a, n, tt)
 add-response past (Request q p x y ∷ es) r s v o a n m =
     (o .0, add-response (Request q p x y ∷ past) es r s v (o .1) (byBool (eqb q r) (λ e. rw e) (λ e. rw e (rw e at a))) n m)

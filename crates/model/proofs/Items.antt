@@ -6,7 +6,6 @@ use mathlib.Core.List.{
   _∷_,
   _++_,
   map,
-  map-append,
   List·Memᴰ,
   List·Memᴰ·head,
   List·Memᴰ·tail,
@@ -26,9 +25,7 @@ use native.Mathlib.Omega.{arith}
 use Rattle.text.specs.declared.report.Entry.{Entry}
 use Rattle.text.specs.declared.trace.Event.the-variants.{Request, Response}
 use Rattle.text.specs.declared.trace.Event.{Event}
-use Rattle.ordering.specs.Before.{Follows}
 use Rattle.ordering.specs.Lists.{All, tally, Later}
-use Rattle.ordering.specs.Order.{onLane}
 use Rattle.ordering.specs.Whole.{keyed, Whole}
 use Rattle.ordering.proofs.Basics.{clash, byBool, byEq, and-true, yes-eqb, eqb-no}
 use Rattle.ordering.proofs.Lists.{mem-all, tally-append}
@@ -167,7 +164,12 @@ answered-later past (e ∷ es) r prog x y s v o m k =
     at (inl i) (inl j) ih = clash (cc)
     at (inl i) (inr k) ih =
         let h = split-at es (Response r s v) k in
-        record { front = []; between = h .front; back = h .back; split = ap (λ e. e ∷ es) (sym i) ∙ ap (λ t. Request r prog x y ∷ t) (h .split) }
+        record {
+          front = [];
+          between = h .front;
+          back = h .back;
+          split = ap (λ e. e ∷ es) (sym i) ∙ ap (λ t. Request r prog x y ∷ t) (h .split);
+        }
     at (inr m) (inl j) ih =
         let o′ : InOrder past (Response r s v ∷ es) = subst (λ e. InOrder past (e ∷ es)) (sym j) o in
         let a : requested r past ≡ true = o′ .0 in
@@ -254,8 +256,8 @@ module _ (b : Batch) (f : Formed b) (h : Reported b) where
       event (Request r′ prog p q) i n = absurd (omega arith)
       event (Response r′ s′ v′) i n = absurd (omega (arith, ap cnt i))
 
-  behind : (e g : Event) → List·Memᴰ e (b .trace) → List·Memᴰ g (b .trace) → rid (ev e) ≡ rid (ev g) → suc (num cnt (ev e)) ≡ num cnt (ev g) →
-      Later (b .trace) e g
+  behind : (e g : Event) → List·Memᴰ e (b .trace) → List·Memᴰ g (b .trace) → rid (ev e) ≡ rid (ev g) →
+      suc (num cnt (ev e)) ≡ num cnt (ev g) → Later (b .trace) e g
   behind (Request r prog p q) (Request r′ prog′ p′ q′) m k i n = absurd (omega arith)
   behind (Request r prog p q) (Response r′ s v) m k i n =
       subst (λ z. List·Memᴰ (Response z s v) (b .trace) → Later (b .trace) (Request r prog p q) (Response z s v)) i

@@ -46,8 +46,8 @@ module _ (M : Machine) (opening : ℕ → M .Content) (known : ℕ → Bool) whe
     host-accepted = recorded-accepted M known limit objects within opening
 
     -- And it stays in range, where the machine does; R is the range of rids.
-    pub host-in-range : (B : Bounded M) (R : ℕ → Type 0) → ((o : ℕ) → B .FitContent (opening o)) → (ms : List Move) → All (FitMove M B R) ms →
-        (b : Batch) → recorded M known limit objects opening ms ≡ made b → FitBatch M B R limit ms b
+    pub host-in-range : (B : Bounded M) (R : ℕ → Type 0) → ((o : ℕ) → B .FitContent (opening o)) → (ms : List Move) →
+        All (FitMove M B R) ms → (b : Batch) → recorded M known limit objects opening ms ≡ made b → FitBatch M B R limit ms b
     host-in-range B R = recorded-fit M B R known limit objects within opening
 
   module _ (b : Batch) (v : audit M opening known b ≡ verdict 0 0) where

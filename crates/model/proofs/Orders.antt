@@ -1,4 +1,5 @@
--- The orders of a batch that the audit accepts: the allowed ones are the orders of its items; all of them answer and end alike; and one is printed.
+-- The orders of a batch that the audit accepts: the allowed ones are the orders of its items, all of them answer and end alike, and one of
+-- them is the merge's.
 use mathlib.Core.Bool.{Bool}
 use mathlib.Core.List.{List, map}
 use mathlib.Core.Logic.{_↔_}

@@ -6,7 +6,6 @@ use Prim.Native.Nat.{ℕ, suc, _≤_}
 use native.Mathlib.Omega.{arith}
 use Rattle.text.specs.declared.report.Entry.{Entry}
 use Rattle.text.specs.declared.trace.Event.the-variants.{Request, Response}
-use Rattle.text.specs.declared.trace.Event.{Event}
 use Rattle.ordering.specs.Lists.{All, tally}
 use Rattle.ordering.specs.Maps.{upd}
 use Rattle.ordering.specs.Order.{bump, Numbered}
@@ -119,7 +118,8 @@ module _ (M : Machine) (opening : ℕ → M .Content) (b : Batch) where
 
   pub place : Formed b → (a : Allowed M opening b) → Placed a
   place f a =
-      let r = ran M (a .order) [] (initial M opening) (a .final) (subst (InOrder []) (sym (a .events)) (f .inOrder)) (λ r _. refl) (a .runs) in
+      let o = subst (InOrder []) (sym (a .events)) (f .inOrder) in
+      let r = ran M (a .order) [] (initial M opening) (a .final) o (λ r _. refl) (a .runs) in
       let ee = ap eventsOf (r .items) ∙ a .events in
       let le : (o : ℕ) → linesOf o (r .nodes) ≡ logOf o (b .log) =
       λ o. sym (runs-logs M (r .nodes) (initial M opening) (a .final) (r .runs) o) ∙ a .logs o in

@@ -1,7 +1,7 @@
 -- 01's "comes before" on a batch is the ordering's on its items; so row 9 holds exactly when a chain of it returns to its start.
-use mathlib.Core.List.{List, [], _∷_, _++_, map, map-append, List·Memᴰ}
+use mathlib.Core.List.{List, [], map, List·Memᴰ}
 use mathlib.Core.Logic.{_≢_, inl, inr, _↔_}
-use mathlib.Core.Path.{_≡_, refl, sym, ap, subst, subst₂, _∙_}
+use mathlib.Core.Path.{_≡_, refl, sym, ap, subst, subst₂}
 use Prim.Native.Nat.{ℕ, suc}
 use native.Mathlib.Omega.{arith}
 use Rattle.text.specs.declared.report.Entry.{Entry}
@@ -10,7 +10,6 @@ use Rattle.text.specs.declared.trace.Event.{Event}
 use Rattle.ordering.specs.Before.{Before, Follows}
 use Rattle.ordering.specs.Chain.{one, Cycle}
 use Rattle.ordering.specs.Lists.{Neighbours}
-use Rattle.ordering.proofs.Basics.{clash}
 use Rattle.ordering.proofs.Chains.{cycle-map}
 use Rattle.ordering.proofs.Cycles.{merge-cycle}
 use Rattle.ordering.proofs.Lists.{mem-all}

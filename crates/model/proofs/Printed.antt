@@ -1,8 +1,7 @@
 -- The order that the merge makes: exactly one order takes at each step the first item that waits for none that is left, and it is allowed.
-use mathlib.Core.List.{List, [], map}
+use mathlib.Core.List.{List, []}
 use mathlib.Core.Logic.{_↔_}
-use mathlib.Core.Path.{_≡_, subst, sym}
-use Prim.Native.Nat.{ℕ}
+use mathlib.Core.Path.{_≡_}
 use Rattle.ordering.specs.Before.{ComesBefore}
 use Rattle.ordering.specs.Chain.{Chain, one}
 use Rattle.ordering.specs.FirstFree.{Greedy}

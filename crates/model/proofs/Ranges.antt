@@ -19,17 +19,16 @@ use lib.ListN.{length}
 use native.Mathlib.Omega.{arith}
 use Rattle.text.specs.declared.report.Entry.{Entry}
 use Rattle.text.specs.declared.report.Op.{Op}
-use Rattle.text.specs.declared.schedule.Move.the-variants.{Arrive, Turn}
 use Rattle.text.specs.declared.schedule.Move.{Move}
 use Rattle.text.specs.declared.trace.Event.the-variants.{Request, Response}
 use Rattle.text.specs.declared.trace.Event.{Event}
 use Rattle.ordering.specs.Lists.{All}
 use Rattle.ordering.specs.Maps.{upd}
 use Rattle.ordering.proofs.Basics.{clash, byBool, byEq, same-or, eqb-self, upd-same, upd-other}
-use Rattle.ordering.proofs.Lists.{all-append, all-imp, all-any}
+use Rattle.ordering.proofs.Lists.{all-append, all-any}
 use Rattle.model.specs.Batch.{Batch, requested, answered}
 use Rattle.model.specs.Bounds.{Within, Bounded}
-use Rattle.model.specs.Host.{logsFrom, Host, empty, made, ofsFrom, recorded}
+use Rattle.model.specs.Host.{logsFrom, Host, made, ofsFrom, recorded}
 use Rattle.model.specs.Machine.{op, stop, Machine}
 use Rattle.model.specs.PlainRun.{
   Phase,
@@ -51,7 +50,7 @@ use Rattle.model.proofs.Recorded.{
   operates,
   replies,
   rests,
-  played-keeps,
+  wrote-keeps,
   Wrote,
   recorded-wrote,
   recorded-demand,
@@ -136,7 +135,8 @@ awaited past (Request q prog a b ∷ es) o r m =
     )
 awaited past (Response q s v ∷ es) o r m = at (List·Memᴰ·cases-cons m) (awaited (Response q s v ∷ past) es (o .2) r)
   where
-    at : (r ≡ q) ⊎ List·Memᴰ r (responseRids es) → (List·Memᴰ r (responseRids es) → Awaited (Response q s v ∷ past) es r) → Awaited past es r
+    at : (r ≡ q) ⊎ List·Memᴰ r (responseRids es) → (List·Memᴰ r (responseRids es) → Awaited (Response q s v ∷ past) es r) →
+        Awaited past es r
     at (inl e) ih = subst (Awaited past es) (sym e) (o .1, inl (o .0))
     at (inr k) ih = let h = ih k in (byBool (eqb q r) (λ d. let c = rw d at (h .0) in clash (cc)) (λ d. rw d at (h .0)), h .1)
 
@@ -177,7 +177,8 @@ module _ (M : Machine) (B : Bounded M) (R : ℕ → Type 0) where
     pub lines : (o : ℕ) → All (FitEntry M B R) (s .logs o)
     pub events : All (FitEvent M B R) trace
 
-  phases-upd : (phase : ℕ → Phase M) (r : ℕ) (f : Phase M) → ((q : ℕ) → FitPhase q (phase q)) → FitPhase r f → (q : ℕ) → FitPhase q (upd phase r f q)
+  phases-upd : (phase : ℕ → Phase M) (r : ℕ) (f : Phase M) → ((q : ℕ) → FitPhase q (phase q)) → FitPhase r f →
+      (q : ℕ) → FitPhase q (upd phase r f q)
   phases-upd phase r f h g q = same-or (λ q. FitPhase q (upd phase r f q)) r q
       (rw (upd-same phase r f) g)
       (λ n _. rw (upd-other phase f n) (h q))
@@ -280,9 +281,10 @@ module _ (M : Machine) (B : Bounded M) (R : ℕ → Type 0) where
               (row4-order known (b .trace) .0 (recorded-demand M known limit objects within opening ms b e .lines4) .0)
 
           g : Ranged (w .host .state) (w .host .trace)
-          g = played-keeps M known limit (λ ms h. Ranged (h .state) (h .trace)) (FitMove M B R) (λ h h′ m ms i d. did-ranged h h′ m i d) ms fit 1
-              (empty M opening) (w .host) (record { contents = held; phases = λ r. tt; lines = λ o. tt; events = tt }) (w .ran)
+          g = wrote-keeps M known limit (λ ms h. Ranged (h .state) (h .trace)) (FitMove M B R) (λ h h′ m ms i d. did-ranged h h′ m i d)
+              objects opening ms b w fit (record { contents = held; phases = λ r. tt; lines = λ o. tt; events = tt })
 
           n : Arrivals (arrivalsIn ms) [] (w .host)
-          n = played-keeps M known limit (Arrivals (arrivalsIn ms)) (λ m. Unit {0}) (λ h h′ m rest _ d. did-arrivals (arrivalsIn ms) h h′ m rest d) ms
-              (all-any (λ m. Unit {0}) (λ m. tt) ms) 1 (empty M opening) (w .host) (omega arith) (w .ran)
+          n = wrote-keeps M known limit (Arrivals (arrivalsIn ms)) (λ m. Unit {0})
+              (λ h h′ m rest _ d. did-arrivals (arrivalsIn ms) h h′ m rest d)
+              objects opening ms b w (all-any (λ m. Unit {0}) (λ m. tt) ms) (omega arith)

@@ -1,10 +1,10 @@
 -- Demand 3 for the host: what it writes without a fault is accepted by the audit.
-use mathlib.Core.Bool.{Bool, true, false, _||_}
+use mathlib.Core.Bool.{Bool, true, false}
 use mathlib.Core.List.{List, [], _∷_, _++_}
 use mathlib.Core.Logic.{_⊎_, inl, inr, ⊎-elim}
 use mathlib.Core.Option.{Option, none, some}
 use mathlib.Core.Path.{_≡_, refl, sym, ap, subst, _∙_}
-use Prim.Native.Nat.{ℕ, zero, suc, _≤_, _<_}
+use Prim.Native.Nat.{ℕ, suc, _≤_, _<_}
 use borrow.Author.Tests.{ltb-true}
 use lib.Dec.{eqb, ltb}
 use lib.ListN.{length}
@@ -140,7 +140,7 @@ module _ (M : Machine) (known : ℕ → Bool) (limit : ℕ) where
   follows n (on g) f h e = (g, refl, e)
 
   -- what every line keeps, the schedule keeps; P holds of its lines, and I speaks of the lines that are left and of the host
-  pub played-keeps : (I : List Move → Host M → Type 0) (P : Move → Type 0) →
+  played-keeps : (I : List Move → Host M → Type 0) (P : Move → Type 0) →
       ((h h′ : Host M) (m : Move) (ms : List Move) → P m → Did h m h′ → I (m ∷ ms) h → I ms h′) →
       (ms : List Move) → All P ms → (n : ℕ) (h t : Host M) → I ms h → played M known limit n ms h ≡ made t → I [] t
   played-keeps I P k [] a n h t i e = let q : h ≡ t = cc in subst (I []) q i
@@ -164,9 +164,16 @@ module _ (M : Machine) (known : ℕ → Bool) (limit : ℕ) where
       closing h d none l c = record { host = h; ran = d; closed15 = l; batch = cc }
       closing h d (some n) l c = clash (cc)
 
-      at : (x : Result (Host M)) → played M known limit 1 ms (empty M opening) ≡ x → write M objects ms x ≡ made b → Wrote objects opening ms b
+      at : (x : Result (Host M)) → played M known limit 1 ms (empty M opening) ≡ x → write M objects ms x ≡ made b →
+          Wrote objects opening ms b
       at (fault number line) d c = clash (cc)
       at (made h) d c = closing h d (row15 M (h .state) ms) refl c
+
+  pub wrote-keeps : (I : List Move → Host M → Type 0) (P : Move → Type 0) →
+      ((h h′ : Host M) (m : Move) (ms : List Move) → P m → Did h m h′ → I (m ∷ ms) h → I ms h′) →
+      (objects : ℕ) (opening : ℕ → Content) (ms : List Move) (b : Batch) (w : Wrote objects opening ms b) → All P ms →
+      I ms (empty M opening) → I [] (w .host)
+  wrote-keeps I P k objects opening ms b w a i = played-keeps I P k ms a 1 (empty M opening) (w .host) i (w .ran)
 
   -- ── no request of the trace is open where row 15 finds nothing ──
   abbrev Shut : State M → Move → Type 0
@@ -219,14 +226,13 @@ module _ (M : Machine) (known : ℕ → Bool) (limit : ℕ) where
     })
       where
         f : Keeps [] (w .host)
-        f = played-keeps Keeps (λ m. Unit {0}) (λ h h′ m ms _ d. did-faithful h h′ m d) ms (all-any (λ m. Unit {0}) (λ m. tt) ms) 1
-            (empty M opening) (w .host) (faithful-empty M known objects opening) (w .ran)
+        f = wrote-keeps Keeps (λ m. Unit {0}) (λ h h′ m ms _ d. did-faithful h h′ m d) objects opening ms b w
+            (all-any (λ m. Unit {0}) (λ m. tt) ms) (faithful-empty M known objects opening)
 
         none-open : NoneOpen (w .host .state) (w .host .trace)
-        none-open = played-keeps (λ ms h. NoneOpen (w .host .state) (h .trace)) (Shut (w .host .state))
-            (λ h h′ m ms i d. did-shut (w .host .state) h h′ m i d) ms
-            (clean15 (w .host .state) [] ms (scan-clean (bad15 M (w .host .state)) 1 [] ms (w .closed15))) 1
-            (empty M opening) (w .host) (λ q d. clash (cc)) (w .ran)
+        none-open = wrote-keeps (λ ms h. NoneOpen (w .host .state) (h .trace)) (Shut (w .host .state))
+            (λ h h′ m ms i d. did-shut (w .host .state) h h′ m i d) objects opening ms b w
+            (clean15 (w .host .state) [] ms (scan-clean (bad15 M (w .host .state)) 1 [] ms (w .closed15))) (λ q d. clash (cc))
 
     pub recorded-demand : (ms : List Move) (b : Batch) → recorded M known limit objects opening ms ≡ made b → Demand3 M opening known b
     recorded-demand ms b e = wrote-demand ms b (recorded-wrote objects opening ms b e)
@@ -243,12 +249,13 @@ module _ (M : Machine) (known : ℕ → Bool) (limit : ℕ) where
     did-few h h′ m (arrives-now r prog a b k e) f = f
     did-few h h′ m (operates r p k o e a l) f =
         let s = h .state in
-        (one-longer (s .logs) (o .object) (lineNow M s r (suc k) o) 0 objects (omega arith) (omega (arith, within p o a)) ∙ ap suc (f .0), l)
+        let w = one-longer (s .logs) (o .object) (lineNow M s r (suc k) o) 0 objects (omega arith) (omega (arith, within p o a)) in
+        (w ∙ ap suc (f .0), l)
     did-few h h′ m (replies r p k t v e a) f = f
     did-few h h′ m (rests r w n e) f = f
 
     pub wrote-few : (ms : List Move) (b : Batch) → Wrote objects opening ms b → length (b .log) ≤ limit
     wrote-few ms b w =
-        let f : Few [] (w .host) = played-keeps Few (λ m. Unit {0}) (λ h h′ m ms _ d. did-few h h′ m d) ms
-        (all-any (λ m. Unit {0}) (λ m. tt) ms) 1 (empty M opening) (w .host) (ap length (no-logs 0 objects), omega arith) (w .ran) in
+        let f : Few [] (w .host) = wrote-keeps Few (λ m. Unit {0}) (λ h h′ m ms _ d. did-few h h′ m d) objects opening ms b w
+        (all-any (λ m. Unit {0}) (λ m. tt) ms) (ap length (no-logs 0 objects), omega arith) in
         subst (λ b. length (b .log) ≤ limit) (w .batch) (omega (arith, f .0, f .1))

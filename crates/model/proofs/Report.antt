@@ -8,7 +8,6 @@ use lib.ListN.{length, length-append}
 use native.Mathlib.Omega.{arith}
 use Rattle.text.specs.declared.report.Entry.{Entry}
 use Rattle.text.specs.declared.report.Of.{Of}
-use Rattle.text.specs.declared.report.Op.{Op}
 use Rattle.text.specs.declared.trace.Event.the-variants.{Request, Response}
 use Rattle.text.specs.declared.trace.Event.{Event}
 use Rattle.ordering.specs.Lists.{All}
@@ -17,7 +16,7 @@ use Rattle.ordering.proofs.Basics.{byBool, byEq, eqb-yes, eqb-no, eqb-self, upd
 use Rattle.model.specs.Batch.{logOf, firstOf}
 use Rattle.model.specs.Host.{logsFrom, ofsFrom}
 use Rattle.model.specs.Machine.{Machine}
-use Rattle.model.specs.PlainRun.{State, lineNow, operated, operationsOf}
+use Rattle.model.specs.PlainRun.{State, operationsOf}
 use Rattle.model.proofs.Trace.{Matching}
 
 -- ── logs ──

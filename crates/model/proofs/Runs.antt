@@ -70,7 +70,8 @@ module _ (M : Machine) where
       requested r past ≡ true
   opened-requested past s r p k h e = byBool (requested r past) (λ d. d) (λ d. let g = h r d in clash (cc))
 
-  pub ran : (xs : List Item) (past : List Event) (s t : State M) → InOrder past (eventsOf xs) → Fresh past s → run M xs s ≡ some t → Ran xs s t
+  pub ran : (xs : List Item) (past : List Event) (s t : State M) → InOrder past (eventsOf xs) → Fresh past s → run M xs s ≡ some t →
+      Ran xs s t
   ran [] past s t o fr e = record { nodes = []; items = refl; runs = cc }
   ran (event (Request r prog a b) ∷ xs) past s t o fr e =
       let fresh : Fresh (Request r prog a b ∷ past) (arrived M s r prog a b) = λ q d. byEq r q
@@ -149,7 +150,8 @@ module _ (M : Machine) where
 
   -- ── phases ──
   -- a closed request stays as it is
-  pub persist : (ys : List Node) (s t : State M) (r : ℕ) (w : List ℕ) (n : ℕ) → Runs ys s t → s .phase r ≡ closed w n → t .phase r ≡ closed w n
+  pub persist : (ys : List Node) (s t : State M) (r : ℕ) (w : List ℕ) (n : ℕ) → Runs ys s t → s .phase r ≡ closed w n →
+      t .phase r ≡ closed w n
   persist [] s t r w n h e = ap (λ z. z .phase r) (sym h) ∙ e
   persist (ev (Request q prog a b) ∷ ys) s t r w n h e = byEq q r
       (λ i _. let g = h .0 in clash (cc))

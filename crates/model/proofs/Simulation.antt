@@ -79,7 +79,8 @@ module _ (M : Machine) (F : ℕ → ℕ → Claim M) (count : ℕ → ℕ) (rep 
     pub logs : (o : ℕ) → final .logs o ≡ s .logs o ++ linesOf o ys
 
   abbrev pub Simulated : List Node → Type 0
-  Simulated ys = (stage : ℕ → ℕ) (s : State M) → Numbered rid (num count) stage ys → All Replayed ys → Invariant stage s ys → Carried stage s ys
+  Simulated ys = (stage : ℕ → ℕ) (s : State M) → Numbered rid (num count) stage ys → All Replayed ys → Invariant stage s ys →
+      Carried stage s ys
 
   fits-upd : (stage : ℕ → ℕ) (phase : ℕ → Phase M) (r : ℕ) (f : Phase M) → ((q : ℕ) → Fits q (stage q) (phase q)) →
       Fits r (suc (stage r)) f → (q : ℕ) → Fits q (bump stage r q) (upd phase r f q)
