@@ -1,4 +1,4 @@
--- Every allowed order gives each operation the same answer: the one that the reported logs tell.
+-- Every allowed order gives each operation the answer that the reported logs give.
 use mathlib.Core.Bool.{Bool, false, _&&_}
 use mathlib.Core.List.{List, [], _∷_, map}
 use mathlib.Core.Option.{Option, none, some}
@@ -11,14 +11,15 @@ use Rattle.ordering.specs.Lists.{tally}
 use Rattle.ordering.proofs.Basics.{byBool, and-true, yes-eqb, eqb-self}
 use Rattle.ordering.proofs.Lanes.{tally-lanes}
 use Rattle.model.specs.Allowed.{Allowed}
-use Rattle.model.specs.Answers.{answerOf}
+use Rattle.model.specs.Answers.{answerOf, loggedAnswer}
 use Rattle.model.specs.Batch.{Batch, claims}
 use Rattle.model.specs.Machine.{Machine}
 use Rattle.model.specs.Nodes.{Node, ev, ln, itemOf, lane, nodes}
 use Rattle.model.specs.PlainRun.{State, initial, arrived, lineNow, operated, replied}
-use Rattle.model.specs.Replay.{Claim, unclaimed, by, claim}
+use Rattle.model.specs.Replay.{Claim, by, claim}
 use Rattle.model.proofs.Ahead.{Ahead, ahead-next}
-use Rattle.model.proofs.Placed.{place, placed-ahead}
+use Rattle.model.proofs.Complete.{claim-none}
+use Rattle.model.proofs.Placed.{none-claimed, place, placed-ahead}
 use Rattle.model.proofs.Runs.{Runs}
 use Rattle.model.proofs.Trace.{Formed}
 
@@ -30,11 +31,10 @@ does r k (ln l) = claims r k l
 module _ (M : Machine) where
   open Machine M using (Content, apply)
 
-  -- the answer that a claim tells, of an operation that stands n times in an order
+  -- the answer of an operation that stands n times in an order
   abbrev told : (n : ℕ) → Claim M → Option ℕ
   told zero c = none
-  told (suc n) unclaimed = none
-  told (suc n) (by l c) = some (apply (l .op) c .0)
+  told (suc n) c = loggedAnswer M c
 
   module _ (F : ℕ → ℕ → Claim M) (r k : ℕ) where
     abbrev Tells : List Node → State M → Type 0
@@ -73,16 +73,19 @@ module _ (M : Machine) where
             let none-here : 0 + tally (does r k) ys ≡ tally (does r k) ys = omega arith in
             rw (d, h .3 .0, h .3 .1, n, eqb-self (suc (h .1)), none-here) ih)
 
-  -- an answer is what the logs tell
-  answer-told : (opening : ℕ → Content) (b : Batch) → Formed b → (a : Allowed M opening b) (r k : ℕ) →
-      answerOf M r k (a .order) (initial M opening) ≡ told (tally (does r k) (nodes b)) (claim M (b .log) opening r k)
-  answer-told opening b f a r k =
+  -- an operation that stands nowhere is not claimed
+  told-claim : (opening : ℕ → Content) (b : Batch) (r k n : ℕ) → tally (does r k) (nodes b) ≡ n →
+      told n (claim M (b .log) opening r k) ≡ loggedAnswer M (claim M (b .log) opening r k)
+  told-claim opening b r k zero e =
+      rw (claim-none M (b .log) opening r k (none-claimed (does r k) r k (λ l. refl) (b .log) (map ev (b .trace)) e))
+  told-claim opening b r k (suc n) e = refl
+
+  pub logged-answers : (opening : ℕ → Content) (b : Batch) → Formed b → (a : Allowed M opening b) (r k : ℕ) →
+      answerOf M r k (a .order) (initial M opening) ≡ loggedAnswer M (claim M (b .log) opening r k)
+  logged-answers opening b f a r k =
       let p = place M opening b f a in
       let F = claim M (b .log) opening in
       ap (λ xs. answerOf M r k xs (initial M opening)) (sym (p .order))
       ∙ answers-told F r k (p .items) (initial M opening) (a .final) (p .runs) (placed-ahead M opening b a p)
       ∙ ap (λ n. told n (F r k)) (tally-lanes lane (does r k) (p .items) (nodes b) (p .placed .lanes))
-
-  pub one-answer : (opening : ℕ → Content) (b : Batch) → Formed b → (x y : Allowed M opening b) (r k : ℕ) →
-      answerOf M r k (x .order) (initial M opening) ≡ answerOf M r k (y .order) (initial M opening)
-  one-answer opening b f x y r k = answer-told opening b f x r k ∙ sym (answer-told opening b f y r k)
+      ∙ told-claim opening b r k (tally (does r k) (nodes b)) refl

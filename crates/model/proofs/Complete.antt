@@ -20,7 +20,7 @@ use Rattle.ordering.proofs.Lists.{all-append-left, all-unmap, all-mem}
 use Rattle.ordering.proofs.Orders.{order-merge}
 use Rattle.model.specs.Allowed.{Allowed}
 use Rattle.model.specs.Batch.{Batch, countOf, firstOf, claims, claimed}
-use Rattle.model.specs.Machine.{Next, op, stop, Machine}
+use Rattle.model.specs.Machine.{Next, op, stop, Machine, applied}
 use Rattle.model.specs.Nodes.{Node, ev, ln, lane, rid, num, nodes}
 use Rattle.model.specs.PlainRun.{
   Phase,
@@ -49,7 +49,6 @@ use Rattle.model.specs.Replay.{
   Claim,
   unclaimed,
   by,
-  write,
   claim,
   compare,
   replay,
@@ -217,11 +216,11 @@ module _ (M : Machine) (opening : ℕ → M .Content) (b : Batch) (t : State M) 
 module _ (M : Machine) where
   open Machine M using (Process, Content, advance, resume)
 
-  claim-none : (ls : List Entry) (c : ℕ → Content) (r k : ℕ) → claimed ls r k ≡ false → claim M ls c r k ≡ unclaimed
+  pub claim-none : (ls : List Entry) (c : ℕ → Content) (r k : ℕ) → claimed ls r k ≡ false → claim M ls c r k ≡ unclaimed
   claim-none [] c r k e = refl
   claim-none (l ∷ ls) c r k e = byBool (claims r k l)
       (λ d. let e′ = rw d at e in clash (cc))
-      (λ d. rw d (claim-none ls (write M c (l .op)) r k (rw d at e)))
+      (λ d. rw d (claim-none ls (applied M c (l .op)) r k (rw d at e)))
 
   replay-claimed : (f : ℕ → Claim M) (a : Reply) (m k : ℕ) (p : Process) (x : Next) (y : Reply) (w : List ℕ) →
       replay M f a m k p x ≡ ended y w → (j : ℕ) → k ≤ j → j < k + m → f j ≡ unclaimed → ⊥

@@ -13,7 +13,7 @@ use Rattle.text.specs.declared.trace.Event.the-variants.{Request, Response}
 use Rattle.text.specs.declared.trace.Event.{Event}
 use Rattle.ordering.specs.Lists.{All}
 use Rattle.ordering.specs.Maps.{upd}
-use Rattle.ordering.proofs.Basics.{clash, byBool, byEq, same-or, eqb-self, upd-same, upd-at, upd-other}
+use Rattle.ordering.proofs.Basics.{clash, byBool, byEq, eqb-self, upd-at, upd-other}
 use Rattle.ordering.proofs.Lists.{all-append}
 use Rattle.model.specs.Allowed.{eventsOf, Allowed}
 use Rattle.model.specs.Batch.{requested, answered, firstOf}
@@ -39,7 +39,7 @@ use Rattle.model.specs.PlainRun.{
   run,
   pathOf,
 }
-use Rattle.model.proofs.Report.{Own, logs-out, logs-in, ofs-alone}
+use Rattle.model.proofs.Report.{Own, logs-out, logs-in, all-more, ofs-alone}
 use Rattle.model.proofs.Trace.{InOrder, KnownIn}
 
 -- ── events at the end of a trace ──
@@ -195,10 +195,7 @@ module _ (M : Machine) where
           programs = f .programs;
           arrivals = λ q. f .arrivals q ∙ same-test hasArrived s r (opened p k) next e refl q;
           responses = λ q. f .responses q ∙ same-test isClosed s r (opened p k) next e refl q;
-          own = λ q. same-or (λ q. Own q (upd (s .logs) (o .object) longer q)) (o .object) q
-              (rw (upd-same (s .logs) (o .object) longer)
-              (all-append (λ l. l .op .object ≡ o .object) (s .logs (o .object)) (line ∷ []) (f .own (o .object)) (refl, tt)))
-              (λ n _. rw (upd-other (s .logs) longer n) (f .own q));
+          own = all-more (s .logs) (o .object) line (λ q l. l .op .object ≡ q) (f .own) refl;
           beyond = λ q c. upd-other (s .logs) longer (λ i. omega arith) ∙ f .beyond q c;
         }
 

@@ -8,7 +8,7 @@ use Rattle.text.specs.declared.schedule.Move.{Move}
 use Rattle.ordering.specs.FirstFree.{Greedy}
 use Rattle.ordering.specs.Lists.{All}
 use Rattle.model.specs.Allowed.{Allowed}
-use Rattle.model.specs.Answers.{written, answerOf}
+use Rattle.model.specs.Answers.{written, answerOf, loggedAnswer}
 use Rattle.model.specs.Audit.{audit, NoneTo8}
 use Rattle.model.specs.Batch.{Batch, logOf}
 use Rattle.model.specs.Bounds.{Within, Bounded}
@@ -20,6 +20,7 @@ use Rattle.model.specs.Nodes.{Node, itemOf, nodes, mergeOf, OrderOf}
 use Rattle.model.specs.PlainRun.{Item, initial}
 use Rattle.model.specs.Precedes.{Leads, Returns, ReturnsWeakly}
 use Rattle.model.specs.Ranges.{FitMove, FitBatch}
+use Rattle.model.specs.Replay.{claim}
 use Rattle.model.proofs.Audited.{audit-demand, audit-nine}
 use Rattle.model.proofs.Orders.{allowed-orders, same-answers, same-contents, one-printed, printed-allowed}
 use Rattle.model.proofs.Ranges.{recorded-fit}
@@ -56,9 +57,9 @@ module _ (M : Machine) (opening : ℕ → M .Content) (known : ℕ → Bool) whe
         ((a : Allowed M opening b) × (a .order ≡ xs)) ↔ ((ys : List Node) × (map itemOf ys ≡ xs) × OrderOf b ys)
     orders = allowed-orders M opening known b v
 
-    -- All of them give operation k of request r the same answer,
-    pub answers : (x y : Allowed M opening b) (r k : ℕ) →
-        answerOf M r k (x .order) (initial M opening) ≡ answerOf M r k (y .order) (initial M opening)
+    -- All of them give operation k of request r the answer that the reported logs give,
+    pub answers : (a : Allowed M opening b) (r k : ℕ) →
+        answerOf M r k (a .order) (initial M opening) ≡ loggedAnswer M (claim M (b .log) opening r k)
     answers = same-answers M opening known b v
 
     -- and end with the contents that the reported logs give.

@@ -7,7 +7,7 @@ use mathlib.Core.Path.{_≡_, sym, subst, _∙_}
 use Prim.Native.Nat.{ℕ}
 use Rattle.ordering.specs.FirstFree.{Greedy}
 use Rattle.model.specs.Allowed.{Allowed}
-use Rattle.model.specs.Answers.{written, answerOf}
+use Rattle.model.specs.Answers.{written, answerOf, loggedAnswer}
 use Rattle.model.specs.Audit.{audit}
 use Rattle.model.specs.Batch.{Batch, logOf}
 use Rattle.model.specs.Checks.{verdict}
@@ -15,7 +15,8 @@ use Rattle.model.specs.Machine.{Machine}
 use Rattle.model.specs.Nodes.{Node, itemOf, nodes, mergeOf, OrderOf}
 use Rattle.model.specs.PlainRun.{Item, initial}
 use Rattle.model.specs.Precedes.{Leads}
-use Rattle.model.proofs.Answers.{one-answer}
+use Rattle.model.specs.Replay.{claim}
+use Rattle.model.proofs.Answers.{logged-answers}
 use Rattle.model.proofs.Audited.{Accepted, accepted-formed, audit-accepted}
 use Rattle.model.proofs.Closing.{closing}
 use Rattle.model.proofs.Placed.{place}
@@ -37,9 +38,9 @@ module _ (M : Machine) (opening : ℕ → M .Content) (known : ℕ → Bool) (b 
     λ h. let a = order-allowed M opening b formed (accepted .passes) (h .0) (h .2) in (a .0, a .1 ∙ h .1),
   )
 
-  pub same-answers : (x y : Allowed M opening b) (r k : ℕ) →
-      answerOf M r k (x .order) (initial M opening) ≡ answerOf M r k (y .order) (initial M opening)
-  same-answers = one-answer M opening b formed
+  pub same-answers : (a : Allowed M opening b) (r k : ℕ) →
+      answerOf M r k (a .order) (initial M opening) ≡ loggedAnswer M (claim M (b .log) opening r k)
+  same-answers = logged-answers M opening b formed
 
   pub same-contents : (a : Allowed M opening b) (o : ℕ) → a .final .contents o ≡ written M (opening o) (logOf o (b .log))
   same-contents = closing M opening b formed

@@ -1,5 +1,5 @@
 -- An allowed order, with the report's lines for its operations, is an order of the batch's items.
-use mathlib.Core.Bool.{false}
+use mathlib.Core.Bool.{Bool, false}
 use mathlib.Core.List.{List, [], _∷_, _++_, map}
 use mathlib.Core.Path.{_≡_, refl, sym, ap, subst, _∙_}
 use Prim.Native.Nat.{ℕ, suc, _≤_}
@@ -87,21 +87,24 @@ module _ (M : Machine) where
         )
 
 -- ── no number comes twice, so no operation is claimed twice ──
+-- a test that counts the lines of operation k of request r
+pub none-claimed : (f : Node → Bool) (r k : ℕ) → ((l : Entry) → f (ln l) ≡ claims r k l) → (ls : List Entry) (es : List Node) →
+    tally f (map ln ls ++ es) ≡ 0 → claimed ls r k ≡ false
+none-claimed f r k h [] es e = refl
+none-claimed f r k h (l ∷ ls) es e = byBool (claims r k l)
+    (λ d. let e′ = rw (h l, d) at e in absurd (omega arith))
+    (λ d. rw d (none-claimed f r k h ls es (let e′ = rw (h l, d) at e in omega arith)))
+
 module _ (cnt : ℕ → ℕ) (es : List Node) where
   abbrev times : ℕ → ℕ → List Entry → ℕ
   times r k ls = tally (keyed rid (num cnt) r k) (map ln ls ++ es)
-
-  none-claimed : (ls : List Entry) (r k : ℕ) → times r k ls ≡ 0 → claimed ls r k ≡ false
-  none-claimed [] r k e = refl
-  none-claimed (l ∷ ls) r k e = byBool (claims r k l)
-      (λ d. let e′ = rw d at e in absurd (omega arith))
-      (λ d. rw d (none-claimed ls r k (let e′ = rw d at e in omega arith)))
 
   unique : (ls : List Entry) → ((r k : ℕ) → times r k ls ≤ 1) → Unique ls
   unique [] h = tt
   unique (l ∷ ls) h =
       let e = rw (eqb-self (l .rid), eqb-self (l .num)) at (h (l .rid) (l .num)) in
-      (none-claimed ls (l .rid) (l .num) (omega arith), unique ls (λ r k. omega (arith, h r k)))
+      let test = keyed rid (num cnt) (l .rid) (l .num) in
+      (none-claimed test (l .rid) (l .num) (λ l. refl) ls es (omega arith), unique ls (λ r k. omega (arith, h r k)))
 
 module _ (M : Machine) (opening : ℕ → M .Content) (b : Batch) where
   abbrev cnt : ℕ → ℕ

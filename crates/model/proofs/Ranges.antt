@@ -56,6 +56,7 @@ use Rattle.model.proofs.Recorded.{
   recorded-demand,
   wrote-few,
 }
+use Rattle.model.proofs.Report.{all-more}
 use Rattle.model.proofs.Trace.{InOrder, row4-order}
 
 -- ── no list of different numbers is longer than one that has them all ──
@@ -209,19 +210,14 @@ module _ (M : Machine) (B : Bounded M) (R : ℕ → Type 0) where
       let h : FitPhase r (opened p k) = subst (FitPhase r) e (g .phases r) in
       let w = B .operates (h .1 .0) p o (s .contents (o .object)) (h .1 .2) d (g .contents (o .object)) in
       let after = apply o (s .contents (o .object)) .1 in
-      let line = lineNow M s r (suc k) o in
-      let longer = s .logs (o .object) ++ (line ∷ []) in
       record {
         contents = λ q. same-or (λ q. B .FitContent (upd (s .contents) (o .object) after q)) (o .object) q
             (rw (upd-same (s .contents) (o .object) after) (w .1))
             (λ n _. rw (upd-other (s .contents) after n) (g .contents q));
         phases = phases-upd (s .phase) r (opened (resume p (answerNow M s o)) (suc k)) (g .phases)
             (h .0, (w .2 .0, omega (arith, h .1 .1, w .2 .1), w .2 .2));
-        lines = λ q. same-or (λ q. All (FitEntry M B R) (upd (s .logs) (o .object) longer q)) (o .object) q
-            (rw (upd-same (s .logs) (o .object) longer)
-            (all-append (FitEntry M B R) (s .logs (o .object)) (line ∷ []) (g .lines (o .object))
-            ((h .0, omega (arith, h .1 .1, w .2 .1), w .0), tt)))
-            (λ n _. rw (upd-other (s .logs) longer n) (g .lines q));
+        lines = all-more (s .logs) (o .object) (lineNow M s r (suc k) o) (λ q. FitEntry M B R) (g .lines)
+            (h .0, omega (arith, h .1 .1, w .2 .1), w .0);
         events = g .events;
       }
 

@@ -36,9 +36,9 @@ use Rattle.model.specs.Host.{
   on,
   arrive,
   commit,
-  moved,
-  follow,
-  played,
+  stepped,
+  goOn,
+  runFrom,
   isOpen,
   bad15,
   row15,
@@ -95,7 +95,7 @@ module _ (M : Machine) (known : ℕ → Bool) (limit : ℕ) where
         })
     rests : (r : ℕ) (w : List ℕ) (n : ℕ) → h .state .phase r ≡ closed w n → Did h (Turn r) h
 
-  did : (h h′ : Host M) (m : Move) → moved M known limit h m ≡ on h′ → Did h m h′
+  did : (h h′ : Host M) (m : Move) → stepped M known limit h m ≡ on h′ → Did h m h′
   did h h′ (Arrive r prog a b) e = byBool (known prog)
       (λ k. at k (h .state .phase r) refl (rw k at e))
       (λ k. let e′ = rw k at e in clash (cc))
@@ -134,37 +134,37 @@ module _ (M : Machine) (known : ℕ → Bool) (limit : ℕ) where
       at (closed w n) d c = let i : h ≡ h′ = cc in subst (Did h (Turn r)) i (rests r w n d)
 
   -- ── the whole schedule ──
-  follows : (n : ℕ) (w : Stepped M) (f : Host M → Result (Host M)) (h : Host M) → follow M known limit n w f ≡ made h →
+  goes-on : (n : ℕ) (w : Stepped M) (f : Host M → Result (Host M)) (h : Host M) → goOn M known limit n w f ≡ made h →
       (g : Host M) × (w ≡ on g) × (f g ≡ made h)
-  follows n broken f h e = clash (cc)
-  follows n (on g) f h e = (g, refl, e)
+  goes-on n broken f h e = clash (cc)
+  goes-on n (on g) f h e = (g, refl, e)
 
   -- what every line keeps, the schedule keeps; P holds of its lines, and I speaks of the lines that are left and of the host
-  played-keeps : (I : List Move → Host M → Type 0) (P : Move → Type 0) →
+  run-keeps : (I : List Move → Host M → Type 0) (P : Move → Type 0) →
       ((h h′ : Host M) (m : Move) (ms : List Move) → P m → Did h m h′ → I (m ∷ ms) h → I ms h′) →
-      (ms : List Move) → All P ms → (n : ℕ) (h t : Host M) → I ms h → played M known limit n ms h ≡ made t → I [] t
-  played-keeps I P k [] a n h t i e = let q : h ≡ t = cc in subst (I []) q i
-  played-keeps I P k (m ∷ ms) a n h t i e =
-      let g = follows n (moved M known limit h m) (played M known limit (suc n) ms) t e in
-      played-keeps I P k ms (a .1) (suc n) (g .0) t (k h (g .0) m ms (a .0) (did h (g .0) m (g .1)) i) (g .2)
+      (ms : List Move) → All P ms → (n : ℕ) (h t : Host M) → I ms h → runFrom M known limit n ms h ≡ made t → I [] t
+  run-keeps I P k [] a n h t i e = let q : h ≡ t = cc in subst (I []) q i
+  run-keeps I P k (m ∷ ms) a n h t i e =
+      let g = goes-on n (stepped M known limit h m) (runFrom M known limit (suc n) ms) t e in
+      run-keeps I P k ms (a .1) (suc n) (g .0) t (k h (g .0) m ms (a .0) (did h (g .0) m (g .1)) i) (g .2)
 
   -- a batch that is written is that of the host behind the whole schedule, with no request open
   pub record Wrote (objects : ℕ) (opening : ℕ → Content) (ms : List Move) (b : Batch) : Type 0 where
     pub host : Host M
-    pub ran : played M known limit 1 ms (empty M opening) ≡ made host
+    pub ran : runFrom M known limit 1 ms (empty M opening) ≡ made host
     pub closed15 : row15 M (host .state) ms ≡ none
     pub batch : batchOf M objects host ≡ b
 
   pub recorded-wrote : (objects : ℕ) (opening : ℕ → Content) (ms : List Move) (b : Batch) →
       recorded M known limit objects opening ms ≡ made b → Wrote objects opening ms b
-  recorded-wrote objects opening ms b e = at (played M known limit 1 ms (empty M opening)) refl e
+  recorded-wrote objects opening ms b e = at (runFrom M known limit 1 ms (empty M opening)) refl e
     where
-      closing : (h : Host M) → played M known limit 1 ms (empty M opening) ≡ made h → (o : Option ℕ) → row15 M (h .state) ms ≡ o →
+      closing : (h : Host M) → runFrom M known limit 1 ms (empty M opening) ≡ made h → (o : Option ℕ) → row15 M (h .state) ms ≡ o →
           close M objects h o ≡ made b → Wrote objects opening ms b
       closing h d none l c = record { host = h; ran = d; closed15 = l; batch = cc }
       closing h d (some n) l c = clash (cc)
 
-      at : (x : Result (Host M)) → played M known limit 1 ms (empty M opening) ≡ x → write M objects ms x ≡ made b →
+      at : (x : Result (Host M)) → runFrom M known limit 1 ms (empty M opening) ≡ x → write M objects ms x ≡ made b →
           Wrote objects opening ms b
       at (fault number line) d c = clash (cc)
       at (made h) d c = closing h d (row15 M (h .state) ms) refl c
@@ -173,7 +173,7 @@ module _ (M : Machine) (known : ℕ → Bool) (limit : ℕ) where
       ((h h′ : Host M) (m : Move) (ms : List Move) → P m → Did h m h′ → I (m ∷ ms) h → I ms h′) →
       (objects : ℕ) (opening : ℕ → Content) (ms : List Move) (b : Batch) (w : Wrote objects opening ms b) → All P ms →
       I ms (empty M opening) → I [] (w .host)
-  wrote-keeps I P k objects opening ms b w a i = played-keeps I P k ms a 1 (empty M opening) (w .host) i (w .ran)
+  wrote-keeps I P k objects opening ms b w a i = run-keeps I P k ms a 1 (empty M opening) (w .host) i (w .ran)
 
   -- ── no request of the trace is open where row 15 finds nothing ──
   abbrev Shut : State M → Move → Type 0

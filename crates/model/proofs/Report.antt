@@ -12,7 +12,8 @@ use Rattle.text.specs.declared.trace.Event.the-variants.{Request, Response}
 use Rattle.text.specs.declared.trace.Event.{Event}
 use Rattle.ordering.specs.Lists.{All}
 use Rattle.ordering.specs.Maps.{upd}
-use Rattle.ordering.proofs.Basics.{byBool, byEq, eqb-yes, eqb-no, eqb-self, upd-at, upd-other}
+use Rattle.ordering.proofs.Basics.{byBool, byEq, same-or, eqb-yes, eqb-no, eqb-self, upd-same, upd-at, upd-other}
+use Rattle.ordering.proofs.Lists.{all-append}
 use Rattle.model.specs.Batch.{logOf, firstOf}
 use Rattle.model.specs.Host.{logsFrom, ofsFrom}
 use Rattle.model.specs.Machine.{Machine}
@@ -58,11 +59,18 @@ pub no-logs : (k n : ℕ) → logsFrom (λ o. []) k n ≡ []
 no-logs k zero = refl
 no-logs k (suc n) = no-logs (suc k) n
 
--- ── one line more in an object's log is one line more in the report ──
+-- ── one line more in an object's log ──
 module _ (logs : ℕ → List Entry) (j : ℕ) (l : Entry) where
-  abbrev more : ℕ → List Entry
+  abbrev pub more : ℕ → List Entry
   more = upd logs j (logs j ++ (l ∷ []))
 
+  -- a fact of all lines
+  pub all-more : (P : ℕ → Entry → Type 0) → ((q : ℕ) → All (P q) (logs q)) → P j l → (q : ℕ) → All (P q) (more q)
+  all-more P h p q = same-or (λ q. All (P q) (more q)) j q
+      (rw (upd-same logs j (logs j ++ (l ∷ []))) (all-append (P j) (logs j) (l ∷ []) (h j) (p, tt)))
+      (λ n _. rw (upd-other logs (logs j ++ (l ∷ [])) n) (h q))
+
+  -- the report is one line longer
   same-beyond : (i n : ℕ) → j < i → logsFrom more i n ≡ logsFrom logs i n
   same-beyond i zero h = refl
   same-beyond i (suc n) h = rw (upd-other logs {k = j} {j = i} (logs j ++ (l ∷ [])) (λ e. omega arith), same-beyond (suc i) n (omega arith))

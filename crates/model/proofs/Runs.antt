@@ -129,7 +129,7 @@ module _ (M : Machine) where
 
   -- ── logs ──
   -- an operation's line joins the end of its object's log
-  joined : (s : State M) (ys : List Node) (l : Entry) (r k : ℕ) (p : Process) (x : Op) → l ≡ lineNow M s r k x → (o : ℕ) →
+  pub joined : (s : State M) (ys : List Node) (l : Entry) (r k : ℕ) (p : Process) (x : Op) → l ≡ lineNow M s r k x → (o : ℕ) →
       operated M s r k p x .logs o ++ linesOf o ys ≡ s .logs o ++ linesOf o (ln l ∷ ys)
   joined s ys l r k p x q o =
       let line = lineNow M s r k x in

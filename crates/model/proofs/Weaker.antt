@@ -15,7 +15,7 @@ use Rattle.model.specs.Batch.{Batch, countOf}
 use Rattle.model.specs.Checks.{verdict}
 use Rattle.model.specs.Machine.{Machine}
 use Rattle.model.specs.Nodes.{Node, ev, lane, rid, num, nodes, mergeOf}
-use Rattle.model.specs.Precedes.{Answers, answers, ReturnsWeakly}
+use Rattle.model.specs.Precedes.{LaterRequest, laterRequest, ReturnsWeakly}
 use Rattle.model.proofs.Audited.{rows-formed, audit-left}
 use Rattle.model.proofs.Claims.{Reported, rows-reported}
 use Rattle.model.proofs.Items.{whole}
@@ -27,20 +27,20 @@ module _ (b : Batch) where
   abbrev cnt : ℕ → ℕ
   cnt = countOf (b .ofs)
 
-  to : (e g : Event) → Answers (b .trace) e g → Answered (num cnt) (map ev (b .trace)) (ev e) (ev g)
-  to e g (answers {r = r} {s = s} {v = v} {q = q} {prog = p} {x = x} {y = y} l) = record {
+  to : (e g : Event) → LaterRequest (b .trace) e g → Answered (num cnt) (map ev (b .trace)) (ev e) (ev g)
+  to e g (laterRequest {r = r} {s = s} {v = v} {q = q} {prog = p} {x = x} {y = y} l) = record {
     response = λ i. omega arith;
     request = refl;
     later = later-map ev (b .trace) (Response r s v) (Request q p x y) l;
   }
 
   -- a later event that is a request, of one that is not
-  answering : (e g : Event) → num cnt (ev e) ≢ 0 → num cnt (ev g) ≡ 0 → Later (b .trace) e g → Answers (b .trace) e g
+  answering : (e g : Event) → num cnt (ev e) ≢ 0 → num cnt (ev g) ≡ 0 → Later (b .trace) e g → LaterRequest (b .trace) e g
   answering (Request r prog x y) g n z l = absurd (n refl)
-  answering (Response r s v) (Request q prog x y) n z l = answers l
+  answering (Response r s v) (Request q prog x y) n z l = laterRequest l
   answering (Response r s v) (Response q t w) n z l = absurd (omega arith)
 
-  from : (y x : Node) → Answered (num cnt) (map ev (b .trace)) y x → Images ev (Answers (b .trace)) y x
+  from : (y x : Node) → Answered (num cnt) (map ev (b .trace)) y x → Images ev (LaterRequest (b .trace)) y x
   from y x a =
       let i = later-unmap ev (b .trace) y x (a .later) in
       record {
@@ -52,13 +52,13 @@ module _ (b : Batch) where
             (ap (num cnt) (i .right) ∙ a .request) (i .holds);
       }
 
-  answers-agree : Agree b Answers (Answered (num cnt))
-  answers-agree = record { to = to; from = from }
+  later-agree : Agree b LaterRequest (Answered (num cnt))
+  later-agree = record { to = to; from = from }
 
 merge-weakly : (b : Batch) → Formed b → Reported b → (mergeOf b .1 ≢ []) ↔ ReturnsWeakly b
 merge-weakly b f h =
     let n = merge-weaker lane rid (num (countOf (b .ofs))) (nodes b) (whole b f h) in
-    let k = cycles b h (answers-agree b) in
+    let k = cycles b h (later-agree b) in
     (λ e. k .1 (n .0 e), λ r. n .1 (k .0 r))
 
 pub audit-nine-weaker : (M : Machine) (opening : ℕ → M .Content) (known : ℕ → Bool) (b : Batch) →

@@ -33,9 +33,10 @@ abbrev pub Returns : Batch → Type 0
 Returns b = Cycle (Precedes Neighbours b)
 
 -- the weaker rule for the trace, of document 001: a response and each later request
-pub data Answers (trace : List Event) : Event → Event → Type 0 where
-  answers : {r s v q prog x y : ℕ} → Later trace (Response r s v) (Request q prog x y) → Answers trace (Response r s v) (Request q prog x y)
+pub data LaterRequest (trace : List Event) : Event → Event → Type 0 where
+  laterRequest : {r s v q prog x y : ℕ} → Later trace (Response r s v) (Request q prog x y) →
+      LaterRequest trace (Response r s v) (Request q prog x y)
 
 -- a chain by the weaker rule that returns to its start
 abbrev pub ReturnsWeakly : Batch → Type 0
-ReturnsWeakly b = Cycle (Precedes Answers b)
+ReturnsWeakly b = Cycle (Precedes LaterRequest b)
