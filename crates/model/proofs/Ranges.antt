@@ -1,18 +1,7 @@
 -- What the host writes stays in range, where the machine does.
-use mathlib.Core.Bool.{Bool, true, false}
-use mathlib.Core.List.{
-  List,
-  [],
-  _∷_,
-  _++_,
-  List·Memᴰ,
-  List·Memᴰ·head,
-  List·Memᴰ·tail,
-  List·Memᴰ·not-nil,
-  List·Memᴰ·cases-cons,
-}
-use mathlib.Core.Logic.{_⊎_, inl, inr, ⊎-elim}
-use mathlib.Core.Path.{_≡_, refl, sym, ap, subst, _∙_}
+use mathlib.Core.Bool.{Bool, true, false, cond, _||_}
+use mathlib.Core.List.{List, [], _∷_, _++_}
+use mathlib.Core.Path.{_≡_, sym, ap, subst, _∙_}
 use Prim.Native.Nat.{ℕ, zero, suc, _+_, _≤_}
 use lib.Dec.{eqb}
 use lib.ListN.{length}
@@ -24,7 +13,7 @@ use Rattle.text.specs.declared.trace.Event.the-variants.{Request, Response}
 use Rattle.text.specs.declared.trace.Event.{Event}
 use Rattle.ordering.specs.Lists.{All}
 use Rattle.ordering.specs.Maps.{upd}
-use Rattle.ordering.proofs.Basics.{clash, byBool, byEq, same-or, eqb-self, upd-same, upd-other}
+use Rattle.ordering.proofs.Basics.{clash, byBool, byEq, same-or, eqb-yes, eqb-no, upd-same, upd-other}
 use Rattle.ordering.proofs.Lists.{all-append, all-any}
 use Rattle.model.specs.Batch.{Batch, requested, answered}
 use Rattle.model.specs.Bounds.{Within, Bounded}
@@ -59,104 +48,47 @@ use Rattle.model.proofs.Recorded.{
 use Rattle.model.proofs.Report.{all-more}
 use Rattle.model.proofs.Trace.{InOrder, row4-order}
 
--- ── no list of different numbers is longer than one that has them all ──
-abbrev Distinct : List ℕ → Type 0
-Distinct [] = Unit {0}
-Distinct (x ∷ xs) = (List·Memᴰ x xs → ⊥) × Distinct xs
-
-record Without (ys : List ℕ) (x : ℕ) : Type 0 where
-  pub others : List ℕ
-  pub shorter : length ys ≡ suc (length others)
-  pub kept : (z : ℕ) → List·Memᴰ z ys → (z ≡ x) ⊎ List·Memᴰ z others
-
-take-out : (ys : List ℕ) (x : ℕ) → List·Memᴰ x ys → Without ys x
-take-out [] x m = absurd (List·Memᴰ·not-nil m)
-take-out (y ∷ ys) x m = at (List·Memᴰ·cases-cons m) (take-out ys x)
-  where
-    at : (x ≡ y) ⊎ List·Memᴰ x ys → (List·Memᴰ x ys → Without ys x) → Without (y ∷ ys) x
-    at (inl e) ih = record { others = ys; shorter = refl; kept = λ z k. ⊎-elim (λ i. inl (i ∙ sym e)) inr (List·Memᴰ·cases-cons k) }
-    at (inr n) ih =
-        let h = ih n in
-        record {
-          others = y ∷ h .others;
-          shorter = ap suc (h .shorter);
-          kept = λ z k. ⊎-elim
-              (λ i. inr (List·Memᴰ·head i))
-              (λ j. ⊎-elim inl (λ u. inr (List·Memᴰ·tail u)) (h .kept z j))
-              (List·Memᴰ·cases-cons k);
-        }
-
-fewer : (xs ys : List ℕ) → Distinct xs → ((z : ℕ) → List·Memᴰ z xs → List·Memᴰ z ys) → length xs ≤ length ys
-fewer [] ys d h = omega arith
-fewer (x ∷ xs) ys d h =
-    let w = take-out ys x (h x (List·Memᴰ·head refl)) in
-    omega (
-      arith,
-      w .shorter,
-      fewer xs (w .others) (d .1) (λ z m. ⊎-elim
-          (λ e. absurd (d .0 (subst (λ z. List·Memᴰ z xs) e m)))
-          (λ k. k)
-          (w .kept z (h z (List·Memᴰ·tail m)))),
-    )
-
 -- ── a trace that keeps row 4 has no more responses than requests ──
-abbrev requestRids : List Event → List ℕ
-requestRids [] = []
-requestRids (Request r prog a b ∷ es) = r ∷ requestRids es
-requestRids (Response r s v ∷ es) = requestRids es
+-- how many requests are open, by a test of what is answered
+abbrev openIn : (ℕ → Bool) → List Event → ℕ
+openIn done [] = 0
+openIn done (Request r prog a b ∷ es) = cond (done r) 0 1 + openIn done es
+openIn done (Response r s v ∷ es) = openIn done es
 
-abbrev responseRids : List Event → List ℕ
-responseRids [] = []
-responseRids (Request r prog a b ∷ es) = responseRids es
-responseRids (Response r s v ∷ es) = r ∷ responseRids es
+-- one more is answered: no more are open, and one less where it was open
+fewer-open : (done : ℕ → Bool) (r : ℕ) (es : List Event) → openIn (λ q. eqb r q || done q) es ≤ openIn done es
+fewer-open done r [] = omega arith
+fewer-open done r (Request q prog a b ∷ es) =
+    let i = fewer-open done r es in
+    byBool (eqb r q) (λ d. rw d (omega (arith, i))) (λ d. rw d (omega (arith, i)))
+fewer-open done r (Response q s v ∷ es) = fewer-open done r es
 
-requests-length : (es : List Event) → length (requestRids es) ≡ requestsIn es
-requests-length [] = refl
-requests-length (Request r prog a b ∷ es) = ap suc (requests-length es)
-requests-length (Response r s v ∷ es) = requests-length es
+one-less : (done : ℕ → Bool) (r : ℕ) (es : List Event) → done r ≡ false → requested r es ≡ true →
+    suc (openIn (λ q. eqb r q || done q) es) ≤ openIn done es
+one-less done r [] n m = clash (cc)
+one-less done r (Request q prog a b ∷ es) n m = byEq q r
+    (λ p d.
+    let e : eqb r q ≡ true = eqb-yes (sym p) in
+    let n′ : done q ≡ false = ap done p ∙ n in
+    rw (e, n′) (omega (arith, fewer-open done r es)))
+    (λ p d.
+    let e : eqb r q ≡ false = eqb-no (λ i. p (sym i)) in
+    rw e (omega (arith, one-less done r es n (rw d at m))))
+one-less done r (Response q s v ∷ es) n m = one-less done r es n m
 
-responses-length : (es : List Event) → length (responseRids es) ≡ responsesIn es
-responses-length [] = refl
-responses-length (Request r prog a b ∷ es) = responses-length es
-responses-length (Response r s v ∷ es) = ap suc (responses-length es)
-
--- a rid whose response is to come was not answered, and was requested or is to be
-abbrev Awaited : List Event → List Event → ℕ → Type 0
-Awaited past es r = (answered r past ≡ false) × ((requested r past ≡ true) ⊎ List·Memᴰ r (requestRids es))
-
-awaited : (past es : List Event) → InOrder past es → (r : ℕ) → List·Memᴰ r (responseRids es) → Awaited past es r
-awaited past [] o r m = absurd (List·Memᴰ·not-nil m)
-awaited past (Request q prog a b ∷ es) o r m =
-    let h = awaited (Request q prog a b ∷ past) es (o .1) r m in (
-      h .0,
-      ⊎-elim
-          (λ e. byEq q r (λ i _. inr (List·Memᴰ·head (sym i))) (λ i d. inl (rw d at e)))
-          (λ k. inr (List·Memᴰ·tail k))
-          (h .1),
-    )
-awaited past (Response q s v ∷ es) o r m = at (List·Memᴰ·cases-cons m) (awaited (Response q s v ∷ past) es (o .2) r)
-  where
-    at : (r ≡ q) ⊎ List·Memᴰ r (responseRids es) → (List·Memᴰ r (responseRids es) → Awaited (Response q s v ∷ past) es r) →
-        Awaited past es r
-    at (inl e) ih = subst (Awaited past es) (sym e) (o .1, inl (o .0))
-    at (inr k) ih = let h = ih k in (byBool (eqb q r) (λ d. let c = rw d at (h .0) in clash (cc)) (λ d. rw d at (h .0)), h .1)
-
-responses-distinct : (past es : List Event) → InOrder past es → Distinct (responseRids es)
-responses-distinct past [] o = tt
-responses-distinct past (Request q prog a b ∷ es) o = responses-distinct (Request q prog a b ∷ past) es (o .1)
-responses-distinct past (Response q s v ∷ es) o = (
-  λ m. let c = rw (eqb-self q) at (awaited (Response q s v ∷ past) es (o .2) q m .0) in clash (cc),
-  responses-distinct (Response q s v ∷ past) es (o .2),
+responses-open : (past es : List Event) → InOrder past es → responsesIn es ≤ requestsIn es + openIn (λ q. answered q past) past
+responses-open past [] o = omega arith
+responses-open past (Request r prog a b ∷ es) o =
+    let i = responses-open (Request r prog a b ∷ past) es (o .1) in
+    byBool (answered r past) (λ d. let i′ = rw d at i in omega arith) (λ d. let i′ = rw d at i in omega arith)
+responses-open past (Response r s v ∷ es) o = omega (
+  arith,
+  responses-open (Response r s v ∷ past) es (o .2),
+  one-less (λ q. answered q past) r past (o .1) (o .0),
 )
 
 responses-few : (es : List Event) → InOrder [] es → responsesIn es ≤ requestsIn es
-responses-few es o = omega (
-  arith,
-  requests-length es,
-  responses-length es,
-  fewer (responseRids es) (requestRids es) (responses-distinct [] es o)
-      (λ r m. ⊎-elim (λ e. clash (cc)) (λ k. k) (awaited [] es o r m .1)),
-)
+responses-few es o = omega (arith, responses-open [] es o)
 
 requests-append : (es fs : List Event) → requestsIn (es ++ fs) ≡ requestsIn es + requestsIn fs
 requests-append [] fs = omega arith

@@ -34,7 +34,10 @@ use Rattle.model.specs.Host.{
   Stepped,
   broken,
   on,
+  afterArrival,
   arrive,
+  afterOperation,
+  afterReply,
   commit,
   stepped,
   goOn,
@@ -48,7 +51,7 @@ use Rattle.model.specs.Host.{
   recorded,
 }
 use Rattle.model.specs.Machine.{Next, op, stop, Machine}
-use Rattle.model.specs.PlainRun.{Phase, absent, opened, closed, State, arrived, lineNow, operated, replied}
+use Rattle.model.specs.PlainRun.{Phase, absent, opened, closed, State, lineNow, operated, replied}
 use Rattle.model.proofs.Audited.{audit-demand}
 use Rattle.model.proofs.Faithful.{
   requested-append,
@@ -80,19 +83,11 @@ module _ (M : Machine) (known : ℕ → Bool) (limit : ℕ) where
   -- ── what one line of the schedule does: an arrival, an operation, a reply, or nothing ──
   pub data Did (h : Host M) : Move → Host M → Type 0 where
     arrives-now : (r prog a b : ℕ) → known prog ≡ true → h .state .phase r ≡ absent →
-        Did h (Arrive r prog a b) (record {
-          state = arrived M (h .state) r prog a b;
-          trace = h .trace ++ (Request r prog a b ∷ []);
-          operations = h .operations;
-        })
+        Did h (Arrive r prog a b) (afterArrival M h r prog a b)
     operates : (r : ℕ) (p : Process) (k : ℕ) (o : Op) → h .state .phase r ≡ opened p k → advance p ≡ op o → h .operations < limit →
-        Did h (Turn r) (record { state = operated M (h .state) r (suc k) p o; trace = h .trace; operations = suc (h .operations) })
+        Did h (Turn r) (afterOperation M h (operated M (h .state) r (suc k) p o))
     replies : (r : ℕ) (p : Process) (k t v : ℕ) → h .state .phase r ≡ opened p k → advance p ≡ stop t v →
-        Did h (Turn r) (record {
-          state = replied M (h .state) r p k;
-          trace = h .trace ++ (Response r t v ∷ []);
-          operations = h .operations;
-        })
+        Did h (Turn r) (afterReply M h (replied M (h .state) r p k) r t v)
     rests : (r : ℕ) (w : List ℕ) (n : ℕ) → h .state .phase r ≡ closed w n → Did h (Turn r) h
 
   did : (h h′ : Host M) (m : Move) → stepped M known limit h m ≡ on h′ → Did h m h′
@@ -101,13 +96,7 @@ module _ (M : Machine) (known : ℕ → Bool) (limit : ℕ) where
       (λ k. let e′ = rw k at e in clash (cc))
     where
       at : known prog ≡ true → (f : Phase M) → h .state .phase r ≡ f → arrive M h r prog a b f ≡ on h′ → Did h (Arrive r prog a b) h′
-      at k absent d c =
-          let i : record {
-            state = arrived M (h .state) r prog a b;
-            trace = h .trace ++ (Request r prog a b ∷ []);
-            operations = h .operations;
-          } ≡ h′ = cc in
-          subst (Did h (Arrive r prog a b)) i (arrives-now r prog a b k d)
+      at k absent d c = let i : afterArrival M h r prog a b ≡ h′ = cc in subst (Did h (Arrive r prog a b)) i (arrives-now r prog a b k d)
       at k (opened p n) d c = clash (cc)
       at k (closed w n) d c = clash (cc)
   did h h′ (Turn r) e = at (h .state .phase r) refl e
@@ -117,16 +106,11 @@ module _ (M : Machine) (known : ℕ → Bool) (limit : ℕ) where
       next p k d (op o) a c = byBool (ltb (h .operations) limit)
           (λ l.
           let c′ = rw l at c in
-          let i : record { state = operated M (h .state) r (suc k) p o; trace = h .trace; operations = suc (h .operations) } ≡ h′ = cc in
+          let i : afterOperation M h (operated M (h .state) r (suc k) p o) ≡ h′ = cc in
           subst (Did h (Turn r)) i (operates r p k o d a (ltb-true (h .operations) limit l)))
           (λ l. let c′ = rw l at c in clash (cc))
       next p k d (stop t v) a c =
-          let i : record {
-            state = replied M (h .state) r p k;
-            trace = h .trace ++ (Response r t v ∷ []);
-            operations = h .operations;
-          } ≡ h′ = cc in
-          subst (Did h (Turn r)) i (replies r p k t v d a)
+          let i : afterReply M h (replied M (h .state) r p k) r t v ≡ h′ = cc in subst (Did h (Turn r)) i (replies r p k t v d a)
 
       at : (f : Phase M) → h .state .phase r ≡ f → commit M known limit h (turnOf M (h .state) r f) ≡ on h′ → Did h (Turn r) h′
       at absent d c = clash (cc)

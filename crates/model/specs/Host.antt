@@ -63,15 +63,25 @@ module _ (M : Machine) where
     on : Host → Stepped
 
   -- an arrival; a rid that arrives twice breaks row 14
+  abbrev pub afterArrival : Host → (rid prog a b : ℕ) → Host
+  afterArrival h r prog a b = record {
+    state = arrived M (h .state) r prog a b;
+    trace = h .trace ++ (Request r prog a b ∷ []);
+    operations = h .operations;
+  }
+
   abbrev pub arrive : Host → (rid prog a b : ℕ) → Phase M → Stepped
-  arrive h r prog a b absent =
-      on (record {
-        state = arrived M (h .state) r prog a b;
-        trace = h .trace ++ (Request r prog a b ∷ []);
-        operations = h .operations;
-      })
+  arrive h r prog a b absent = on (afterArrival h r prog a b)
   arrive h r prog a b (opened p k) = broken
   arrive h r prog a b (closed w n) = broken
+
+  -- an operation, and a reply or cut
+  abbrev pub afterOperation : Host → State M → Host
+  afterOperation h s = record { state = s; trace = h .trace; operations = suc (h .operations) }
+
+  abbrev pub afterReply : Host → State M → (rid status value : ℕ) → Host
+  afterReply h s r status value =
+      record { state = s; trace = h .trace ++ (Response r status value ∷ []); operations = h .operations }
 
   -- known: the programs that there are; limit: the most operations of a batch
   module _ (known : ℕ → Bool) (limit : ℕ) where
@@ -79,10 +89,8 @@ module _ (M : Machine) where
     abbrev pub commit : Host → Turned → Stepped
     commit h missing = broken
     commit h idle = on h
-    commit h (worked s) =
-        cond (ltb (h .operations) limit) (on (record { state = s; trace = h .trace; operations = suc (h .operations) })) broken
-    commit h (finished s r status value) =
-        on (record { state = s; trace = h .trace ++ (Response r status value ∷ []); operations = h .operations })
+    commit h (worked s) = cond (ltb (h .operations) limit) (on (afterOperation h s)) broken
+    commit h (finished s r status value) = on (afterReply h s r status value)
 
     -- an unknown program breaks row 14
     abbrev pub stepped : Host → Move → Stepped
