@@ -1,5 +1,5 @@
--- 01's batches and the small examples of its table, on parsed batches, with their lines: a table for the audit and one for the host, each
--- with one proof.
+-- The paper's batches and the small examples of its table, as parsed batches with their lines: a table for the audit and one for the host,
+-- each with one proof.
 use mathlib.Core.Bool.{Bool}
 use mathlib.Core.List.{List, [], _∷_, map}
 use mathlib.Core.Path.{_≡_, refl}

@@ -36,7 +36,7 @@ module _ (M : Machine) (opening : ℕ → M .Content) (known : ℕ → Bool) whe
   pub row-9 : (b : Batch) → (audit M opening known b ≡ verdict 9 0) ↔ (NoneTo8 known b × Returns b)
   row-9 = audit-nine M opening known
 
-  -- The same by the weaker relation of document 001, in which a response comes before each later request only.
+  -- The same by the weaker relation of source document 001, in which a response comes before each later request only.
   pub row-9-weaker : (b : Batch) → (audit M opening known b ≡ verdict 9 0) ↔ (NoneTo8 known b × ReturnsWeakly b)
   row-9-weaker = audit-nine-weaker M opening known
 

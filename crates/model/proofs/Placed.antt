@@ -96,10 +96,7 @@ none-claimed f r k h (l ∷ ls) es e = byBool (claims r k l)
     (λ d. rw d (none-claimed f r k h ls es (let e′ = rw (h l, d) at e in omega arith)))
 
 module _ (cnt : ℕ → ℕ) (es : List Node) where
-  abbrev times : ℕ → ℕ → List Entry → ℕ
-  times r k ls = tally (keyed rid (num cnt) r k) (map ln ls ++ es)
-
-  unique : (ls : List Entry) → ((r k : ℕ) → times r k ls ≤ 1) → Unique ls
+  unique : (ls : List Entry) → ((r k : ℕ) → tally (keyed rid (num cnt) r k) (map ln ls ++ es) ≤ 1) → Unique ls
   unique [] h = tt
   unique (l ∷ ls) h =
       let e = rw (eqb-self (l .rid), eqb-self (l .num)) at (h (l .rid) (l .num)) in

@@ -1,4 +1,4 @@
--- 01's "comes before" on a batch is the ordering's on its items; so row 9 holds exactly when a chain of it returns to its start.
+-- "Comes before" on a batch is the ordering's on its items; so row 9 holds exactly when a chain of it returns to its start.
 use mathlib.Core.List.{List, [], map, List·Memᴰ}
 use mathlib.Core.Logic.{_≢_, inl, inr, _↔_}
 use mathlib.Core.Path.{_≡_, refl, sym, ap, subst, subst₂}
