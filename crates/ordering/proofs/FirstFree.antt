@@ -21,7 +21,7 @@ use native.Mathlib.Omega.{arith}
 use lib.Dec.{eqb}
 use lib.ListN.{length}
 use Rattle.ordering.specs.Lists.{All, Neighbours}
-use Rattle.ordering.specs.Order.{among, onLane, Pick, stuck, took, keep, pick, merge}
+use Rattle.ordering.specs.Order.{among, onLane, Pick, stuck, took, keep, pick, merge, mergeAll}
 use Rattle.ordering.specs.Chain.{Chain, one, more}
 use Rattle.ordering.specs.Before.{ComesBefore, events, logged, next}
 use Rattle.ordering.specs.Whole.{Whole}
@@ -100,7 +100,7 @@ module _ {A : Type 0} (lane rid num : A → ℕ) where
   passes : (stage : ℕ → ℕ) (seen : List ℕ) (rest : List A) (x : A) (others : List A) →
       pick lane rid num stage seen rest ≡ took x others → Passed stage seen rest x others
   passes stage seen [] x others e = clash (cc)
-  passes stage seen (y ∷ ys) x others e = byBool (eqb (num y) (stage (rid y)) && not (among (lane y) seen))
+  passes stage seen (y ∷ ys) x others e = byBool (not (among (lane y) seen) && eqb (num y) (stage (rid y)))
       (λ t.
       let e′ : took y ys ≡ took x others = rw t at e in
       let i : y ≡ x = cc in
@@ -108,7 +108,7 @@ module _ {A : Type 0} (lane rid num : A → ℕ) where
       record { front = []; back = ys; split = ap (λ z. z ∷ ys) i; without = sym j; passed = λ z q _ o _. clash (cc) })
       (λ t. go t (pick lane rid num stage (lane y ∷ seen) ys) (passes stage (lane y ∷ seen) ys) (rw t at e))
     where
-      go : (eqb (num y) (stage (rid y)) && not (among (lane y) seen)) ≡ false → (o : Pick A) →
+      go : (not (among (lane y) seen) && eqb (num y) (stage (rid y))) ≡ false → (o : Pick A) →
           ((z : A) (zs : List A) → o ≡ took z zs → Passed stage (lane y ∷ seen) ys z zs) → keep y o ≡ took x others →
           Passed stage seen (y ∷ ys) x others
       go t stuck d k = clash (cc)
@@ -252,15 +252,15 @@ module _ {A : Type 0} (lane rid num : A → ℕ) where
 
     -- ── each item that the merge takes is the first free one, and the order so made is the only one ──
     pub merge-first-free : Takes (Chain (ComesBefore lane rid num all)) all
-        (merge lane rid num (length all) (λ r. 0) all .0) (merge lane rid num (length all) (λ r. 0) all .1)
+        (mergeAll lane rid num all .0) (mergeAll lane rid num all .1)
     merge-first-free =
-        let m = merge lane rid num (length all) (λ r. 0) all in
+        let m = mergeAll lane rid num all in
         takes-chain (m .0) all (m .1) (λ y x b m. target lane rid num all b)
         (merge-takes (length all) [] all (record { lanes = λ l. refl; numbered = tt }))
 
-    pub only-order : merge lane rid num (length all) (λ r. 0) all .1 ≡ [] → (order : List A) →
-        Greedy (Chain (ComesBefore lane rid num all)) all order ↔ (order ≡ merge lane rid num (length all) (λ r. 0) all .0)
+    pub only-order : mergeAll lane rid num all .1 ≡ [] → (order : List A) →
+        Greedy (Chain (ComesBefore lane rid num all)) all order ↔ (order ≡ mergeAll lane rid num all .0)
     only-order e order =
-        let m = merge lane rid num (length all) (λ r. 0) all in
+        let m = mergeAll lane rid num all in
         let p : Greedy (Chain R) all (m .0) = subst (Takes (Chain R) all (m .0)) e merge-first-free in
         (λ q. one-order (Chain R) order (m .0) all q p, λ i. subst (Greedy (Chain R) all) (sym i) p)

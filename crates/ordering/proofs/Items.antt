@@ -8,7 +8,7 @@ use lib.Dec.{eqb}
 use lib.ListN.{getD, length}
 use native.Mathlib.Omega.{arith}
 use Rattle.ordering.specs.Lists.{All}
-use Rattle.ordering.specs.Order.{among, bump, IsOrder, Pick, stuck, took, keep, pick, merge}
+use Rattle.ordering.specs.Order.{among, bump, IsOrder, Pick, stuck, took, keep, pick, merge, mergeAll}
 use Rattle.ordering.specs.Positions.{upFrom, slot, value, mergeOf, counts}
 use Rattle.ordering.proofs.Basics.{byBool, byEq}
 use Rattle.ordering.proofs.Lanes.{all-lanes}
@@ -77,7 +77,7 @@ module _ {A B : Type 0} (f : A → B) where
 
     pick-map : (stage : ℕ → ℕ) (seen : List ℕ) (xs : List A) → pick lane rid num stage seen (map f xs) ≡ mapPick (Pk stage seen xs)
     pick-map stage seen [] = refl
-    pick-map stage seen (x ∷ xs) = byBool (eqb (num (f x)) (stage (rid (f x))) && not (among (lane (f x)) seen))
+    pick-map stage seen (x ∷ xs) = byBool (not (among (lane (f x)) seen) && eqb (num (f x)) (stage (rid (f x))))
         (λ t. rw t)
         (λ t. rw t (ap (keep (f x)) (pick-map stage (lane (f x) ∷ seen) xs) ∙ keep-map x (Pk stage (lane (f x) ∷ seen) xs)))
 
@@ -117,11 +117,13 @@ module _ {A : Type 0} (lane rid num : A → ℕ) (items : List A) (d : A) (lanes
   pub record Held : Type 0 where
     pub lane-at : (i : ℕ) → i < length items → lane (item i) ≡ slot lanes 17 i
     pub number-at : (i : ℕ) → i < length items → num (item i) ≡ value numbers i
-    pub one-request : (i j : ℕ) → i < length items → j < length items → rid (item i) ≡ rid (item j) → slot requests 64 i ≡ slot requests 64 j
-    pub one-slot : (i j : ℕ) → i < length items → j < length items → slot requests 64 i ≡ slot requests 64 j → rid (item i) ≡ rid (item j)
+    pub one-request : (i j : ℕ) → i < length items → j < length items → rid (item i) ≡ rid (item j) →
+        slot requests 64 i ≡ slot requests 64 j
+    pub one-slot : (i j : ℕ) → i < length items → j < length items → slot requests 64 i ≡ slot requests 64 j →
+        rid (item i) ≡ rid (item j)
 
   pub merge-items : Held →
-      merge lane rid num (length items) (λ r. 0) items ≡ both (λ i. getD items i d) (mergeOf lanes requests numbers (length items))
+      mergeAll lane rid num items ≡ both (λ i. getD items i d) (mergeOf lanes requests numbers (length items))
   unfolding mergeOf
   merge-items h =
       ap (merge lane rid num (length items) (λ r. 0)) (sym (map-up items d))

@@ -12,3 +12,5 @@ pub mod Search
 pub mod Pick
 pub mod Merging
 pub mod Items
+mod Cases
+pub mod Main

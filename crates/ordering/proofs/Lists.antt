@@ -16,10 +16,9 @@ use mathlib.Core.List.{
   Memᴰ·append-right,
   append-assoc,
 }
-use Prim.Native.Nat.{ℕ, _+_, _≤_}
+use Prim.Native.Nat.{_+_, _≤_}
 use native.Mathlib.Omega.{arith}
 use Rattle.ordering.specs.Lists.{All, tally, Neighbours, Later}
-use Rattle.ordering.proofs.Basics.{clash}
 
 -- ── all items ──
 pub all-append : {A : Type 0} (P : A → Type 0) (xs ys : List A) → All P xs → All P ys → All P (xs ++ ys)

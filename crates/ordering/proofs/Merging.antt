@@ -1,6 +1,7 @@
 -- The loop that takes one item after another: its invariant, and a law for each way through it.
 use mathlib.Core.Path.{_≡_, refl, sym, ap, subst, fun-ext, _∙_}
-use mathlib.Core.Bool.{true}
+use mathlib.Core.Bool.{true, false}
+use lib.Dec.{eqb}
 use mathlib.Core.List.{List, [], _∷_, _++_, append-nil, append-assoc}
 use Prim.Native.Nat.{ℕ, zero, suc, _+_, _-_, _%_, _≤_, _<_}
 use lib.ListN.{getD, length, set, drop, length-set, length-append, replicate}
@@ -10,14 +11,14 @@ use Rattle.ordering.specs.declared.Front.{Front}
 use Rattle.ordering.specs.declared.Merged.{Merged}
 use Rattle.ordering.specs.Order.{onLane, merge, pick, took, bump}
 use Rattle.ordering.specs.Positions.{upFrom, slot, value, mergeOf, overFront, counts}
-use Rattle.ordering.specs.Heads.{isNext}
+use Rattle.ordering.specs.Heads.{isNext, leastOf}
 use Rattle.ordering.proofs.Basics.{byEq, eqb-yes, eqb-no, yes-eqb}
 use Rattle.ordering.proofs.Lists.{all-imp}
 use Rattle.ordering.proofs.Numbers.{bump-same, bump-other}
 use Rattle.ordering.proofs.Orders.{merge-stuck, merge-took, picked, Picked}
 use Rattle.ordering.proofs.Pick.{Ascending, Ready, head-lane, still-ascending, pick-least, pick-none}
 use Rattle.ordering.proofs.Links.{Through, Linked, all-up}
-use Rattle.ordering.proofs.Search.{Least, Leads}
+use Rattle.ordering.proofs.Search.{Leads, least-of}
 
 -- ── small laws ──
 up-ascending : (i m : ℕ) → Ascending (upFrom i m)
@@ -89,6 +90,8 @@ module _ (lane request number : List ℕ) (n : ℕ) (o : List ℕ) where
     pub rest : List ℕ
     pub heads : length head ≡ 17
     pub stages : length stage ≡ 64
+    pub requests : n ≤ length request
+    pub numbers : n ≤ length number
     pub room : n ≤ length o
     pub small : (r : ℕ) → getD stage r 0 ≤ k
     pub written : out ≡ done ++ drop k o
@@ -99,9 +102,10 @@ module _ (lane request number : List ℕ) (n : ℕ) (o : List ℕ) where
     pub order : done ++ M (n - k) stage rest .0 ≡ mergeOf lane request number n .0
     pub left : M (n - k) stage rest .1 ≡ mergeOf lane request number n .1
 
-  pub merging-start : (after head : List ℕ) → n ≤ length o → Linked lane n 0 head after → Merging after o head (replicate 64 0) 0
+  pub merging-start : (after head : List ℕ) → n ≤ length request → n ≤ length number → n ≤ length o → Linked lane n 0 head after →
+      Merging after o head (replicate 64 0) 0
   unfolding mergeOf
-  merging-start after head b h =
+  merging-start after head q m b h =
       let e : n - 0 ≡ n = omega arith in
       let z : _≡_ {A = ℕ → ℕ} (λ r. getD (replicate 64 0) r 0) (λ r. 0) = fun-ext (λ r. zeros 64 r) in
       record {
@@ -109,6 +113,8 @@ module _ (lane request number : List ℕ) (n : ℕ) (o : List ℕ) where
         rest = upFrom 0 n;
         heads = h .heads;
         stages = refl;
+        requests = q;
+        numbers = m;
         room = b;
         small = λ r. omega (arith, zeros 64 r);
         written = refl;
@@ -157,13 +163,22 @@ module _ (lane request number : List ℕ) (n : ℕ) (o : List ℕ) where
   is-next : (stage : List ℕ) (x y : ℕ) → x ≡ y → N y ≡ at stage (Q y) → isNext request number stage x ≡ true
   is-next stage x y e t = eqb-yes (subst (λ y. N y ≡ at stage (Q y)) (sym e) t)
 
-  pub merging-stop : (after out head stage : List ℕ) (k m : ℕ) (f : Front) → n ≡ m → Least (isNext request number stage) head n f →
-      17 ≤ f .lane → Merging after out head stage k → Written m out k (n - k)
-  merging-stop after out head stage k m f c h e g =
+  -- ── what `least` finds ──
+  abbrev Found : List ℕ → List ℕ → Front → Type 0
+  Found stage head f = f ≡ leastOf request number stage head n
+
+  pub merging-leads : (after out head stage : List ℕ) (k : ℕ) (f : Front) → Merging after out head stage k → Found stage head f →
+      f .lane < 17 → Leads (isNext request number stage) head n (f .lane) (f .item)
+  merging-leads after out head stage k f g e = least-of request number stage head n f (g .requests) (g .numbers) e .some
+
+  pub merging-stop : (after out head stage : List ℕ) (k m : ℕ) (f : Front) → n ≡ m → Merging after out head stage k →
+      Found stage head f → 17 ≤ f .lane → Written m out k (n - k)
+  merging-stop after out head stage k m f c g e b =
+      let h = least-of request number stage head n f (g .requests) (g .numbers) e in
       merging-done after out head stage k m c g (merge-stuck L Q N (n - k) (at stage) (g .rest)
       (pick-none L Q N (at stage) (g .rest) (λ y r.
       let d = headed after out head stage k g y r in
-      omega (arith, d .0, d .1, h .none e (L y) (omega arith) (is-next stage (getD head (L y) 0) y (d .0) (r .2))))))
+      omega (arith, d .0, d .1, h .none b (L y) (omega arith) (is-next stage (getD head (L y) 0) y (d .0) (r .2))))))
 
   -- ── a step ──
   -- the lanes behind it, given that `pick` takes x, the head of lane l
@@ -175,8 +190,10 @@ module _ (lane request number : List ℕ) (n : ℕ) (o : List ℕ) where
       (λ q d. subst (λ j. Through after n (getD (set head l (getD after x 0)) j 0) (onLane L j zs)) q
       (rw (getD-set-same head l (getD after x 0) 0 (omega arith))
       (subst (Through after n (getD head l 0)) {y = x ∷ onLane L l zs} (sym (p l) ∙ rw (eqb-yes lx)) (g l b) .2)))
-      (λ q d. rw (getD-set-other head l j (getD after x 0) 0 (λ r. q (sym r)))
-      (subst (Through after n (getD head j 0)) {y = onLane L j zs} (sym (p j) ∙ rw (eqb-no {a = L x} {b = j} (λ r. q (sym lx ∙ r)))) (g j a)))
+      (λ q d.
+      let i : eqb (L x) j ≡ false = eqb-no {a = L x} {b = j} (λ r. q (sym lx ∙ r)) in
+      rw (getD-set-other head l j (getD after x 0) 0 (λ r. q (sym r)))
+      (subst (Through after n (getD head j 0)) {y = onLane L j zs} (sym (p j) ∙ rw i) (g j a)))
 
   stepped : (after out head stage : List ℕ) (k l x : ℕ) (zs : List ℕ) → k < n → l < 17 → L x ≡ l → (g : Merging after out head stage k) →
       pick L Q N (at stage) [] (g .rest) ≡ took x zs →
@@ -194,6 +211,8 @@ module _ (lane request number : List ℕ) (n : ℕ) (o : List ℕ) where
         rest = zs;
         heads = length-set head l (getD after x 0) ∙ g .heads;
         stages = length-set stage (Q x) (getD stage (Q x) 0 + 1) ∙ g .stages;
+        requests = g .requests;
+        numbers = g .numbers;
         room = g .room;
         small = still-small stage (Q x) in-stage k (g .small);
         written = write o (g .done) out k x (omega (arith, g .room)) (g .so-far) (g .written);
@@ -205,17 +224,23 @@ module _ (lane request number : List ℕ) (n : ℕ) (o : List ℕ) where
         left = ap (λ t. t .1) (sym v) ∙ g .left;
       }
 
-  -- as the code has it: w is the byte read for x's request
-  pub merging-taken : (after out head stage : List ℕ) (k l x w : ℕ) → k < n → l < 17 → w ≡ getD request x 0 →
-      Leads (isNext request number stage) head n l x → Merging after out head stage k →
-      Merging after (set out k x) (set head l (getD after x 0)) (set stage (w % 64) (getD stage (w % 64) 0 + 1)) (k + 1)
-  merging-taken after out head stage k l x w s b d f g =
-      let q = starts after n x (onLane L l (g .rest)) (f .item)
-      (subst (λ h. Through after n h (onLane L l (g .rest))) (sym (f .first)) (g .lanes l b)) in
+  -- as the code has it: w is the byte read for the item's request
+  pub merging-taken : (after out head stage : List ℕ) (k w : ℕ) (f : Front) → k < n → w ≡ getD request (f .item) 0 →
+      Merging after out head stage k → Found stage head f → f .lane < 17 →
+      Merging after (set out k (f .item)) (set head (f .lane) (getD after (f .item) 0)) (set stage (w % 64) (getD stage (w % 64) 0 + 1))
+      (k + 1)
+  merging-taken after out head stage k w f s d g e b =
+      let x = f .item in
+      let l = f .lane in
+      let h = merging-leads after out head stage k f g e b in
+      let q = starts after n x (onLane L l (g .rest)) (h .item)
+      (subst (λ h. Through after n h (onLane L l (g .rest))) (sym (h .first)) (g .lanes l b)) in
       let lx : L x ≡ l = head-lane L l (g .rest) x (q .0) (q .1) in
-      let r : Ready L Q N (at stage) (g .rest) x = (q .0, subst (λ l. onLane L l (g .rest) ≡ x ∷ q .0) (sym lx) (q .1), yes-eqb (f .ready)) in
+      let r : Ready L Q N (at stage) (g .rest) x =
+      (q .0, subst (λ l. onLane L l (g .rest) ≡ x ∷ q .0) (sym lx) (q .1), yes-eqb (h .ready)) in
       let p = pick-least L Q N (at stage) (g .rest) x (g .ascending) r (λ y r.
-      let h = headed after out head stage k g y r in
-      omega (arith, h .0, f .least (L y) (omega arith) (is-next stage (getD head (L y) 0) y (h .0) (r .2)))) in
-      subst (λ w. Merging after (set out k x) (set head l (getD after x 0)) (set stage (w % 64) (getD stage (w % 64) 0 + 1)) (k + 1)) (sym d)
+      let d = headed after out head stage k g y r in
+      omega (arith, d .0, h .least (L y) (omega arith) (is-next stage (getD head (L y) 0) y (d .0) (r .2)))) in
+      subst (λ r. Merging after (set out k x) (set head l (getD after x 0)) (set stage r (getD stage r 0 + 1)) (k + 1))
+      (ap (λ w. w % 64) (sym d))
       (stepped after out head stage k l x (p .0) s b lx g (p .1))

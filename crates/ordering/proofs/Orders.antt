@@ -58,14 +58,14 @@ module _ {A : Type 0} (lane rid num : A → ℕ) where
   pub picked : (stage : ℕ → ℕ) (seen : List ℕ) (rest : List A) (x : A) (rest′ : List A) →
       pick lane rid num stage seen rest ≡ took x rest′ → Picked stage seen rest x rest′
   picked stage seen [] x rest′ e = clash (cc)
-  picked stage seen (y ∷ ys) x rest′ e = byBool (eqb (num y) (stage (rid y)) && not (among (lane y) seen))
+  picked stage seen (y ∷ ys) x rest′ e = byBool (not (among (lane y) seen) && eqb (num y) (stage (rid y)))
       (λ t.
       let e′ : took y ys ≡ took x rest′ = rw t at e in
-      let b = and-true (eqb (num y) (stage (rid y))) (not (among (lane y) seen)) t in
+      let b = and-true (not (among (lane y) seen)) (eqb (num y) (stage (rid y))) t in
       let p : y ≡ x = cc in
       let q : ys ≡ rest′ = cc in
       subst₂ (Picked stage seen (y ∷ ys)) p q
-      (record { fresh = not-true (b .1); next = yes-eqb (b .0); lanes = λ l. refl; shorter = refl }))
+      (record { fresh = not-true (b .0); next = yes-eqb (b .1); lanes = λ l. refl; shorter = refl }))
       (λ f. go (Pk stage (lane y ∷ seen) ys) (picked stage (lane y ∷ seen) ys) (rw f at e))
     where
       go : (o : Pick A) → ((z : A) (zs : List A) → o ≡ took z zs → Picked stage (lane y ∷ seen) ys z zs) → keep y o ≡ took x rest′ →
@@ -86,7 +86,7 @@ module _ {A : Type 0} (lane rid num : A → ℕ) where
       let t : eqb (num y) (stage (rid y)) ≡ true = rw g (eqb-yes q) in
       let u : among (lane y) seen ≡ false = rw g f in
       let k′ = rw (t, u) at k in clash (cc))
-      (λ p d. byBool (eqb (num y) (stage (rid y)) && not (among (lane y) seen))
+      (λ p d. byBool (not (among (lane y) seen) && eqb (num y) (stage (rid y)))
       (λ t. let k′ = rw t at k in clash (cc))
       (λ t. not-stuck stage (lane y ∷ seen) ys x xs (rw d f) (rw d at e) q (unkept (Pk stage (lane y ∷ seen) ys) (rw t at k))))
     where

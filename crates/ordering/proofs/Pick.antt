@@ -40,7 +40,7 @@ module _ (lane rid num : ℕ → ℕ) where
       let e′ : took y ys ≡ took z zs =
       rw (eqb-yes {a = num y} {b = stage (rid y)} (rw i n), ap (λ t. among (lane t) seen) i ∙ f) at e in
       let j : y ≡ z = cc in omega arith)
-      (λ p d. byBool (eqb (num y) (stage (rid y)) && not (among (lane y) seen))
+      (λ p d. byBool (not (among (lane y) seen) && eqb (num y) (stage (rid y)))
       (λ t.
       let e′ : took y ys ≡ took z zs = rw t at e in
       let j : y ≡ z = cc in
@@ -56,7 +56,7 @@ module _ (lane rid num : ℕ → ℕ) where
   pub still-ascending : (stage : ℕ → ℕ) (seen rest : List ℕ) (z : ℕ) (zs : List ℕ) → Ascending rest →
       pick lane rid num stage seen rest ≡ took z zs → Ascending zs
   still-ascending stage seen [] z zs a e = clash (cc)
-  still-ascending stage seen (y ∷ ys) z zs a e = byBool (eqb (num y) (stage (rid y)) && not (among (lane y) seen))
+  still-ascending stage seen (y ∷ ys) z zs a e = byBool (not (among (lane y) seen) && eqb (num y) (stage (rid y)))
       (λ t. let e′ : took y ys ≡ took z zs = rw t at e in let i : ys ≡ zs = cc in subst Ascending i (a .1))
       (λ t. go (Pk stage (lane y ∷ seen) ys)
       (still-ascending stage (lane y ∷ seen) ys) (picked lane rid num stage (lane y ∷ seen) ys) (rw t at e))

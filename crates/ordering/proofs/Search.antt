@@ -1,14 +1,13 @@
 -- The search over the heads finds the smallest that is next in its request.
-use mathlib.Core.Path.{_≡_, refl, sym, ap, subst, _∙_}
+use mathlib.Core.Path.{_≡_, refl, sym, ap, subst}
 use mathlib.Core.Bool.{Bool, true, false, cond, _&&_, and-false}
 use mathlib.Core.List.{List}
 use Prim.Native.Nat.{ℕ, zero, suc, _+_, _-_, _%_, _≤_, _<_, min}
-use lib.Dec.{eqb, ltb}
+use lib.Dec.{ltb}
 use lib.ListN.{getD, length}
 use native.Mathlib.Omega.{arith}
 use borrow.Author.Tests.{lt-ltb, le-ltb, ltb-true, ltb-false}
 use Rattle.ordering.specs.declared.Front.{Front}
-use Rattle.ordering.specs.Positions.{slot, value}
 use Rattle.ordering.specs.Heads.{isNext, search, leastOf}
 use Rattle.ordering.proofs.Basics.{byBool, byEq, clash, and-true, eqb-yes, eqb-no}
 
@@ -86,10 +85,6 @@ least-of request number stage head n f a b e =
       least = λ j b. absurd (omega arith);
     }))
 
-pub leads-of : (request number stage head : List ℕ) (n : ℕ) (f : Front) → n ≤ length request → n ≤ length number →
-    f ≡ leastOf request number stage head n → f .lane < 17 → Leads (isNext request number stage) head n (f .lane) (f .item)
-leads-of request number stage head n f a b e = least-of request number stage head n f a b e .some
-
 -- ── the loop: its invariant, and a law for each way through its body ──
 module _ (request number stage head : List ℕ) (n : ℕ) where
   pub record Searching (found best l : ℕ) : Type 0 where
@@ -101,7 +96,12 @@ module _ (request number stage head : List ℕ) (n : ℕ) where
 
   pub searching-start : (best : ℕ) → best ≡ min n (min (length request) (length number)) → Searching 17 best 0
   unfolding leastOf
-  searching-start best e = record { requests = omega arith; numbers = omega arith; few = omega arith; rest = ap (λ b. search (isNext request number stage) head 17 0 (record { lane = 17; item = b })) e }
+  searching-start best e = record {
+    requests = omega arith;
+    numbers = omega arith;
+    few = omega arith;
+    rest = ap (λ b. search (isNext request number stage) head 17 0 (record { lane = 17; item = b })) e;
+  }
 
   -- x is the head of lane l, w its request's byte
   module _ (found best l x : ℕ) (s : l < 17) (e : x ≡ getD head l 0) (g : Searching found best l) where

@@ -4,11 +4,10 @@ use mathlib.Core.Logic.{_≢_, _⊎_, inl, inr, ⊎-elim, _↔_}
 use mathlib.Core.List.{List, [], _∷_, _++_, List·Memᴰ, List·Memᴰ·head, Memᴰ·append-right, append-assoc}
 use Prim.Native.Nat.{ℕ, suc, _≤_}
 use native.Mathlib.Omega.{arith}
-use lib.ListN.{length}
 use Rattle.ordering.specs.Lists.{tally, Neighbours, Later}
-use Rattle.ordering.specs.Order.{onLane, merge}
+use Rattle.ordering.specs.Order.{onLane, mergeAll}
 use Rattle.ordering.specs.Chain.{Chain, one, more, Cycle}
-use Rattle.ordering.specs.Before.{Before, events, logged, next, ComesBefore, WeaklyBefore}
+use Rattle.ordering.specs.Before.{events, logged, next, ComesBefore, WeaklyBefore}
 use Rattle.ordering.specs.Whole.{keyed, Whole}
 use Rattle.ordering.proofs.Basics.{byEq}
 use Rattle.ordering.proofs.Lists.{not-later, later-next, later-mem, neighbours-later}
@@ -141,5 +140,5 @@ module _ {A : Type 0} (lane rid num : A → ℕ) (all : List A) where
     pub weaker : Cycle (ComesBefore lane rid num all) ↔ Cycle (WeaklyBefore lane rid num all)
     weaker = (weak-cycle, cycle-map strong)
 
-    pub merge-weaker : (merge lane rid num (length all) (λ r. 0) all .1 ≢ []) ↔ Cycle (WeaklyBefore lane rid num all)
+    pub merge-weaker : (mergeAll lane rid num all .1 ≢ []) ↔ Cycle (WeaklyBefore lane rid num all)
     merge-weaker = let m = merge-cycle lane rid num all w in (λ n. weaker .0 (m .0 n), λ c. m .1 (weaker .1 c))

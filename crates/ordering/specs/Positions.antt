@@ -21,18 +21,22 @@ value xs i = getD xs i 0
 unfoldable pub mergeOf : List ℕ → List ℕ → List ℕ → ℕ → List ℕ × List ℕ
 mergeOf lane request number n = merge (slot lane 17) (slot request 64) (value number) n (λ r. 0) (upFrom 0 n)
 
--- how many items there are: as many as the shortest array has, the one to write to among them, and no more than 1,152
-abbrev pub countOf : ℕ → ℕ → ℕ → ℕ → ℕ
-countOf a b c d = min (min a b) (min (min c d) 1152)
-
+-- the merge of what the arrays hold: as many items as the shortest array has, the one to write to among them, and no more than 1,152
 abbrev pub mergeArrays : List ℕ → List ℕ → List ℕ → List ℕ → List ℕ × List ℕ
 mergeArrays lane request number out =
-    mergeOf lane request number (countOf (length lane) (length request) (length number) (length out))
+    mergeOf lane request number (min (length lane) (min (length request) (min (length number) (min (length out) 1152))))
 
 -- a list written over the front of an array
 abbrev pub overFront : List ℕ → List ℕ → List ℕ
 overFront xs out = xs ++ drop (length xs) out
 
+-- the array `out` behind the merge: the order in its front
+abbrev pub orderIn : List ℕ → List ℕ → List ℕ → List ℕ → List ℕ
+orderIn lane request number out = overFront (mergeArrays lane request number out .0) out
+
 -- how many items are taken and how many are left
 abbrev pub counts : List ℕ × List ℕ → Merged
 counts m = record { taken = length (m .0); left = length (m .1) }
+
+abbrev pub countsOf : List ℕ → List ℕ → List ℕ → List ℕ → Merged
+countsOf lane request number out = counts (mergeArrays lane request number out)

@@ -1,9 +1,10 @@
-// The merge of items that stand in two queues each, a lane and a request: an item is taken when it is the first of its lane and next in its
-// request, the smallest position first.
+// The merge of items that stand in two queues each, a lane (0 the trace, 1 + o the log of object o) and a request: an item is taken when it
+// is the first of its lane and next in its request, the smallest position first. With the log lines in report order before the trace events,
+// a position is a report line or an event.
 ghost use mathlib.Core.Path.{_≡_};
 ghost use Prim.Native.Nat.{min};
 ghost use lib.ListN.{length};
-ghost use Rattle.ordering.specs.Positions.{countOf, mergeArrays, overFront, counts};
+ghost use Rattle.ordering.specs.Positions.{orderIn, countsOf};
 ghost use Rattle.ordering.specs.Heads.{linkOf, leastOf};
 
 fn wide(x: u8) -> usize
@@ -18,16 +19,14 @@ fn place(x: u16) -> usize
     x as usize
 }
 
-fn smaller(a: usize, b: usize) -> usize
-    ensures { λ r. ⌜ r ≡ min a b ⌝ }
+fn fewest(a: usize, b: usize, c: usize) -> usize
+    ensures { λ r. ⌜ r ≡ min a (min b c) ⌝ }
 {
-    if a <= b { a } else { b }
-}
-
-fn count(a: usize, b: usize, c: usize, d: usize) -> usize
-    ensures { λ r. ⌜ r ≡ countOf a b c d ⌝ }
-{
-    smaller(smaller(a, b), smaller(smaller(c, d), 1152))
+    if a <= b {
+        if a <= c { a } else { c }
+    } else {
+        if b <= c { b } else { c }
+    }
 }
 
 // The first item of each lane, and the next of its lane after each item: one pass from the back.
@@ -36,7 +35,7 @@ fn link(lane: &[u8], n: usize, head: &mut [u16; 17], after: &mut [u16; 1152])
     ensures heads { λ r. ⌜ now (head .exit) ≡ linkOf (now (lane .entry)) n (now (head .entry)) (now (after .entry)) .0 ⌝ }
     ensures afters { λ r. ⌜ now (after .exit) ≡ linkOf (now (lane .entry)) n (now (head .entry)) (now (after .entry)) .1 ⌝ }
 {
-    let mut i: usize = smaller(n, smaller(lane.len(), 1152));
+    let mut i: usize = fewest(n, lane.len(), 1152);
     while 0 < i {
         i -= 1;
         let l = wide(lane[i]) % 17;
@@ -56,8 +55,9 @@ struct Front {
 fn least(request: &[u8], number: &[u16], stage: &[u16; 64], head: &[u16; 17], n: usize) -> Front
     ensures { λ r. ⌜ r ≡ leastOf (now (request .entry)) (now (number .entry)) (now (stage .entry)) (now (head .entry)) n ⌝ }
 {
+    let m = fewest(n, request.len(), number.len());
     let mut found: usize = 17;
-    let mut best: usize = smaller(n, smaller(request.len(), number.len()));
+    let mut best: usize = m;
     let mut l: usize = 0;
     while l < 17 {
         let x = place(head[l]);
@@ -89,11 +89,14 @@ pub struct Merged {
 
 // The order, written over the front of `out` as positions. The items are as many as the shortest slice has, and no more than 1,152.
 pub fn merge(lane: &[u8], request: &[u8], number: &[u16], out: &mut [u16]) -> Merged
-    ensures order { λ r. ⌜ now (out .exit)
-        ≡ overFront (mergeArrays (now (lane .entry)) (now (request .entry)) (now (number .entry)) (now (out .entry)) .0) (now (out .entry)) ⌝ }
-    ensures taken { λ r. ⌜ r ≡ counts (mergeArrays (now (lane .entry)) (now (request .entry)) (now (number .entry)) (now (out .entry))) ⌝ }
+    ensures order { λ r. ⌜ now (out .exit) ≡ orderIn (now (lane .entry)) (now (request .entry)) (now (number .entry)) (now (out .entry)) ⌝ }
+    ensures counted { λ r. ⌜ r ≡ countsOf (now (lane .entry)) (now (request .entry)) (now (number .entry)) (now (out .entry)) ⌝ }
 {
-    let n = count(lane.len(), request.len(), number.len(), out.len());
+    let n = fewest(
+        lane.len(),
+        request.len(),
+        fewest(number.len(), out.len(), 1152),
+    );
     let mut head = [1152u16; 17];
     let mut after = [0u16; 1152];
     link(lane, n, &mut head, &mut after);

@@ -5,16 +5,20 @@ use Rattle.ordering.proofs.least.Statement.{statement}
 use Rattle.ordering.proofs.least.Tie as tie
 
 abbrev Inv-loop : tie.InvT-loop
-Inv-loop request number stage head n found₀ best₀ l₀ found best l = Searching request number stage head n found best l
+Inv-loop request number stage head n m found₀ best₀ l₀ found best l = Searching request number stage head n found best l
 
 abbrev μ-loop : tie.MeasureT-loop
-μ-loop request number stage head n found₀ best₀ l₀ found best l = 17 - l
+μ-loop request number stage head n m found₀ best₀ l₀ found best l = 17 - l
 
 loop-holds : tie.Need-loop-holds Inv-loop μ-loop
 loop-holds c = searching-start _ _ _ _ _ _ (search needs)
 
 loop-again : tie.Need-loop-again Inv-loop μ-loop
-loop-again c = searching-found _ _ _ _ _ (c .before .before .before .before .before .before .before .before .before .loop .found) (c .before .before .before .before .before .before .before .before .before .loop .best) _ _ (search needs) (search needs) (search needs) _ (search needs) (search needs) (c .if2 .taken)
+loop-again c =
+    searching-found _ _ _ _ _
+    (c .before .before .before .before .before .before .before .before .before .loop .found)
+    (c .before .before .before .before .before .before .before .before .before .loop .best)
+    _ _ (search needs) (search needs) (search needs) _ (search needs) (search needs) (c .if2 .taken)
 
 loop-again-2 : tie.Need-loop-again-2 Inv-loop μ-loop
 loop-again-2 c = searching-other _ _ _ _ _ _ _ _ _ (search needs) (search needs) (search needs) _ (search needs) (c .if2 .left)
@@ -31,7 +35,6 @@ least-spec =
     (tie.spec
     Inv-loop
     μ-loop
-    (λ c κs. search needs)
     (λ c κs. search needs)
     loop-holds
     (λ c. search needs)

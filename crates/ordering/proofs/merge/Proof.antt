@@ -4,8 +4,7 @@ use mathlib.Core.Path.{_≡_, refl}
 use borrow.Author.Needs.{needs}
 use lib.ListN.{length, length-set}
 use Rattle.ordering.proofs.Links.{linked-of}
-use Rattle.ordering.proofs.Search.{least-of, leads-of}
-use Rattle.ordering.proofs.Merging.{Merging, merging-start, merging-stop, merging-end, merging-taken}
+use Rattle.ordering.proofs.Merging.{Merging, merging-start, merging-stop, merging-end, merging-leads, merging-taken}
 use Rattle.ordering.proofs.merge.Statement.{statement}
 use Rattle.ordering.proofs.merge.Tie as tie
 
@@ -19,25 +18,30 @@ abbrev μ-loop : tie.MeasureT-loop
 loop-holds : tie.Need-loop-holds Inv-loop μ-loop
 loop-holds c = (
   refl,
-  merging-start _ _ _ _ _ _ _ (search needs) (linked-of _ _ _ _ (search needs) (search needs) (c .link .ensures .0) (c .link .ensures .1)),
+  merging-start _ _ _ _ _ _ _ (search needs) (search needs) (search needs)
+      (linked-of _ _ _ _ (search needs) (search needs) (c .link .ensures .0) (c .link .ensures .1)),
 )
 
 returns : tie.Need-returns Inv-loop μ-loop
 returns c =
-    merging-stop _ _ _ (c .before .before .before .before .before .before .before .before .before .count .result) _ _ _ _ _ _ _ _
-    (search needs)
-    (least-of _ _ _ _ _ _ (search needs) (search needs) (c .before .least .ensures))
-    (c .if1 .taken)
-    (c .before .before .before .before .before .loop .inv .1)
+    merging-stop _ _ _ _ _ _ _ _ _ _ _ _
+    (search needs) (c .before .before .before .before .before .loop .inv .1) (c .before .least .ensures) (c .if1 .taken)
 
+-- the item that was found is one of the n
 shared-slice-read-wide : tie.Need-shared-slice-read-wide Inv-loop μ-loop
-shared-slice-read-wide c = omega (arith, leads-of _ _ _ _ _ _ (search needs) (search needs) (c .before .before .least .ensures) (c .before .if1 .left))
+shared-slice-read-wide c = omega (
+  arith,
+  merging-leads _ _ _ _ _ _ _ _ _ _ _
+      (c .before .before .before .before .before .before .loop .inv .1) (c .before .before .least .ensures) (c .before .if1 .left),
+)
 
 cast-out : tie.Need-cast-out Inv-loop μ-loop
 cast-out c = record {
   fits = omega (
     arith,
-    leads-of _ _ _ _ _ _ (search needs) (search needs) (c .before .before .before .least .ensures) (c .before .before .if1 .left),
+    merging-leads _ _ _ _ _ _ _ _ _ _ _
+        (c .before .before .before .before .before .before .before .loop .inv .1)
+        (c .before .before .before .least .ensures) (c .before .before .if1 .left),
   );
 }
 
@@ -45,14 +49,18 @@ mul-head : tie.Need-mul-head Inv-loop μ-loop
 mul-head c = record {
   fits = omega (
     arith,
-    leads-of _ _ _ _ _ _ (search needs) (search needs) (c .before .before .before .least .ensures) (c .before .before .if1 .left),
+    merging-leads _ _ _ _ _ _ _ _ _ _ _
+        (c .before .before .before .before .before .before .before .loop .inv .1)
+        (c .before .before .before .least .ensures) (c .before .before .if1 .left),
   );
 }
 
 array-read-head : tie.Need-array-read-head Inv-loop μ-loop
 array-read-head c = omega (
   arith,
-  leads-of _ _ _ _ _ _ (search needs) (search needs) (c .before .before .before .least .ensures) (c .before .before .if1 .left),
+  merging-leads _ _ _ _ _ _ _ _ _ _ _
+      (c .before .before .before .before .before .before .before .loop .inv .1)
+      (c .before .before .before .least .ensures) (c .before .before .if1 .left),
 )
 
 add-stage : tie.Need-add-stage Inv-loop μ-loop
@@ -63,18 +71,15 @@ add-stage c = record {
 loop-again : tie.Need-loop-again Inv-loop μ-loop
 loop-again c = (
   simp length-set (c .before .before .before .before .before .before .before .loop .inv .0),
-  merging-taken _ _ _ (c .before .before .before .before .before .before .before .before .before .before .before .count .result)
-      _ _ _ _ _ _ _ _ _ (search needs) (c .before .before .if1 .left) (search needs)
-      (leads-of _ _ _ _ _ _ (search needs) (search needs) (c .before .before .before .least .ensures) (c .before .before .if1 .left))
-      (c .before .before .before .before .before .before .before .loop .inv .1),
+  merging-taken _ _ _ _ _ _ _ _ _ _ _ _ (search needs) (search needs)
+      (c .before .before .before .before .before .before .before .loop .inv .1)
+      (c .before .before .before .least .ensures) (c .before .before .if1 .left),
 )
 
 returns-2 : tie.Need-returns-2 Inv-loop μ-loop
 returns-2 c =
-    merging-end _ _ _ (c .before .before .before .before .before .count .result) _ _ _ _ _ _ _
-    (search needs)
-    (search needs)
-    (c .before .loop .inv .1)
+    merging-end _ _ _ (c .before .before .before .before .before .fewest2 .result) _ _ _ _ _ _ _
+    (search needs) (search needs) (c .before .loop .inv .1)
 
 pub merge-spec : {M : Type 1} → statement M
 merge-spec =
@@ -82,6 +87,7 @@ merge-spec =
     (tie.spec
     Inv-loop
     μ-loop
+    (λ c κs. search needs)
     (λ c κs. search needs)
     (λ c κs. search needs)
     loop-holds
