@@ -1,10 +1,11 @@
 -- Demand 3 for the audit: verdict 0 exactly when rows 4 and 6 do not hold and an order is allowed. And row 9 with its number.
-use mathlib.Core.Bool.{Bool}
+use mathlib.Core.Bool.{Bool, false}
 use mathlib.Core.List.{List, [], _∷_, _++_, append-nil}
 use mathlib.Core.Logic.{_≢_, _↔_}
 use mathlib.Core.Option.{none}
 use mathlib.Core.Path.{_≡_, refl, sym, ap, _∙_}
 use Prim.Native.Nat.{ℕ, suc}
+use lib.Dec.{eqb}
 use native.Mathlib.Omega.{arith}
 use Rattle.text.specs.declared.report.Of.{Of}
 use Rattle.ordering.specs.Lists.{All}
@@ -29,7 +30,7 @@ use Rattle.model.specs.Demand.{Demand3}
 use Rattle.model.specs.Machine.{Machine}
 use Rattle.model.specs.Nodes.{Node, mergeOf}
 use Rattle.model.specs.Precedes.{Returns}
-use Rattle.model.proofs.Claims.{rows-reported}
+use Rattle.model.proofs.Claims.{Reported, rows-reported}
 use Rattle.model.proofs.Complete.{complete}
 use Rattle.model.proofs.Passes.{Passes, rows-passes}
 use Rattle.model.proofs.Precedes.{merge-returns}
@@ -41,7 +42,7 @@ use Rattle.model.proofs.Trace.{Formed, row4-order, row6-matching}
 no-fault : (n : ℕ) (cs : List Check) → All (NotRow n) cs → firstFault cs .number ≡ n → All Clear cs × (0 ≡ n)
 no-fault n cs h e = fault-clear n cs [] h (ap (λ cs. firstFault cs .number) (append-nil cs) ∙ e)
 
-pub rows-formed : (known : ℕ → Bool) (b : Batch) → row4 known (b .trace) ≡ none → row6 b ≡ none → Formed b
+rows-formed : (known : ℕ → Bool) (b : Batch) → row4 known (b .trace) ≡ none → row6 b ≡ none → Formed b
 rows-formed known b e d = record { inOrder = row4-order known (b .trace) .0 e .0; matching = row6-matching b .0 d }
 
 module _ (M : Machine) (opening : ℕ → M .Content) (known : ℕ → Bool) (b : Batch) where
@@ -51,13 +52,18 @@ module _ (M : Machine) (opening : ℕ → M .Content) (known : ℕ → Bool) (b 
   abbrev to8 : List Check
   to8 = traceChecks known (b .trace) ++ (check 6 (row6 b) ∷ check 7 (row7 b) ∷ check 8 (row8 b) ∷ [])
 
-  -- rows 10, 11 and 12 are no other
-  replay-rows : (n : ℕ) → 10 ≢ n → 11 ≢ n → 12 ≢ n → (k : ℕ) (xs : List Of) → All (NotRow n) (replayChecks M opening b k xs)
+  -- ── the rows that the checks have ──
+  replay-rows : (n : ℕ) → eqb 10 n ≡ false → eqb 11 n ≡ false → eqb 12 n ≡ false → (k : ℕ) (xs : List Of) →
+      All (NotRow n) (replayChecks M opening b k xs)
   replay-rows n a c d k [] = tt
   replay-rows n a c d k (x ∷ xs) = (a, (c, (d, replay-rows n a c d (suc k) xs)))
 
-  rows-to-8 : (n : ℕ) → 4 ≢ n → 6 ≢ n → 7 ≢ n → 8 ≢ n → All (NotRow n) to8
+  rows-to-8 : (n : ℕ) → eqb 4 n ≡ false → eqb 6 n ≡ false → eqb 7 n ≡ false → eqb 8 n ≡ false → All (NotRow n) to8
   rows-to-8 n a c d e = (a, (a, (c, (d, (e, tt)))))
+
+  no-row-0 : All (NotRow 0) checks
+  no-row-0 = all-append (NotRow 0) to8 (check 9 (row9 b) ∷ replayChecks M opening b 1 (b .ofs))
+      (rows-to-8 0 refl refl refl refl) (refl, replay-rows 0 refl refl refl 1 (b .ofs))
 
   -- ── verdict 0 ──
   -- what verdict 0 leaves of the rows
@@ -74,10 +80,7 @@ module _ (M : Machine) (opening : ℕ → M .Content) (known : ℕ → Bool) (b 
   unfolding audit
   audit-accepted = (
     λ e.
-        let c = no-fault 0 checks (all-append (NotRow 0) to8 (check 9 (row9 b) ∷ replayChecks M opening b 1 (b .ofs))
-        (rows-to-8 0 (λ i. omega arith) (λ i. omega arith) (λ i. omega arith) (λ i. omega arith))
-        (λ i. omega arith, replay-rows 0 (λ i. omega arith) (λ i. omega arith) (λ i. omega arith) 1 (b .ofs)))
-        (ap (λ v. v .number) e) .0 in
+        let c = no-fault 0 checks no-row-0 (ap (λ v. v .number) e) .0 in
         let r = c .1 .1 .1 in
         record {
           lines4 = c .0;
@@ -112,12 +115,12 @@ module _ (M : Machine) (opening : ℕ → M .Content) (known : ℕ → Bool) (b 
   )
 
   -- ── verdict 9 ──
-  pub audit-left : (audit M opening known b ≡ verdict 9 0) ↔ (NoneTo8 known b × (mergeOf b .1 ≢ []))
+  audit-left : (audit M opening known b ≡ verdict 9 0) ↔ (NoneTo8 known b × (mergeOf b .1 ≢ []))
   unfolding audit
   audit-left = (
     λ e.
-        let c = fault-clear 9 to8 (check 9 (row9 b) ∷ replayChecks M opening b 1 (b .ofs))
-        (rows-to-8 9 (λ i. omega arith) (λ i. omega arith) (λ i. omega arith) (λ i. omega arith)) (ap (λ v. v .number) e) in
+        let c = fault-clear 9 to8 (check 9 (row9 b) ∷ replayChecks M opening b 1 (b .ofs)) (rows-to-8 9 refl refl refl refl)
+        (ap (λ v. v .number) e) in
         let r = c .0 in
         ((r .0, r .1 .0, r .1 .1 .0, r .1 .1 .1 .0, r .1 .1 .1 .1 .0), λ i. stays (rw i at (c .1))),
     λ h.
@@ -128,19 +131,23 @@ module _ (M : Machine) (opening : ℕ → M .Content) (known : ℕ → Bool) (b 
     where
       stays : firstFault (replayChecks M opening b 1 (b .ofs)) .number ≡ 9 → ⊥
       stays e =
-          let z = no-fault 9 (replayChecks M opening b 1 (b .ofs))
-          (replay-rows 9 (λ i. omega arith) (λ i. omega arith) (λ i. omega arith) 1 (b .ofs)) e in
+          let z = no-fault 9 (replayChecks M opening b 1 (b .ofs)) (replay-rows 9 refl refl refl 1 (b .ofs)) e in
           omega (arith, z .1)
 
       found : (m : List Node) → m ≢ [] → firstFault (check 9 (leftOver m) ∷ replayChecks M opening b 1 (b .ofs)) ≡ verdict 9 0
       found [] n = absurd (n refl)
       found (x ∷ xs) n = refl
 
-  pub audit-nine : (audit M opening known b ≡ verdict 9 0) ↔ (NoneTo8 known b × Returns b)
-  audit-nine = (
-    λ e. let h = audit-left .0 e in (h .0, returns (h .0) .0 (h .1)),
-    λ h. audit-left .1 (h .0, returns (h .0) .1 (h .1)),
+  -- what says that the merge leaves something over, where rows 4 to 8 do not hold, says row 9
+  pub audit-nine-by : {P : Type 0} → (Formed b → Reported b → (mergeOf b .1 ≢ []) ↔ P) →
+      (audit M opening known b ≡ verdict 9 0) ↔ (NoneTo8 known b × P)
+  audit-nine-by {P} says = (
+    λ e. let h = audit-left .0 e in (h .0, at (h .0) .0 (h .1)),
+    λ h. audit-left .1 (h .0, at (h .0) .1 (h .1)),
   )
     where
-      returns : NoneTo8 known b → (mergeOf b .1 ≢ []) ↔ Returns b
-      returns r = merge-returns b (rows-formed known b (r .0) (r .2)) (rows-reported b .0 (r .3, r .4))
+      at : NoneTo8 known b → (mergeOf b .1 ≢ []) ↔ P
+      at r = says (rows-formed known b (r .0) (r .2)) (rows-reported b .0 (r .3, r .4))
+
+  pub audit-nine : (audit M opening known b ≡ verdict 9 0) ↔ (NoneTo8 known b × Returns b)
+  audit-nine = audit-nine-by (merge-returns b)

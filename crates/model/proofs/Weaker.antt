@@ -16,8 +16,8 @@ use Rattle.model.specs.Checks.{verdict}
 use Rattle.model.specs.Machine.{Machine}
 use Rattle.model.specs.Nodes.{Node, ev, lane, rid, num, nodes, mergeOf}
 use Rattle.model.specs.Precedes.{LaterRequest, laterRequest, ReturnsWeakly}
-use Rattle.model.proofs.Audited.{rows-formed, audit-left}
-use Rattle.model.proofs.Claims.{Reported, rows-reported}
+use Rattle.model.proofs.Audited.{audit-nine-by}
+use Rattle.model.proofs.Claims.{Reported}
 use Rattle.model.proofs.Items.{whole}
 use Rattle.model.proofs.Mapped.{Images, later-map, later-unmap}
 use Rattle.model.proofs.Precedes.{Agree, cycles}
@@ -63,10 +63,4 @@ merge-weakly b f h =
 
 pub audit-nine-weaker : (M : Machine) (opening : ℕ → M .Content) (known : ℕ → Bool) (b : Batch) →
     (audit M opening known b ≡ verdict 9 0) ↔ (NoneTo8 known b × ReturnsWeakly b)
-audit-nine-weaker M opening known b = (
-  λ e. let h = audit-left M opening known b .0 e in (h .0, returns (h .0) .0 (h .1)),
-  λ h. audit-left M opening known b .1 (h .0, returns (h .0) .1 (h .1)),
-)
-  where
-    returns : NoneTo8 known b → (mergeOf b .1 ≢ []) ↔ ReturnsWeakly b
-    returns r = merge-weakly b (rows-formed known b (r .0) (r .2)) (rows-reported b .0 (r .3, r .4))
+audit-nine-weaker M opening known b = audit-nine-by M opening known b (merge-weakly b)
