@@ -2,7 +2,7 @@
 use mathlib.Core.Bool.{Bool, false, _&&_}
 use mathlib.Core.List.{List, [], _∷_, map}
 use mathlib.Core.Option.{Option, none, some}
-use mathlib.Core.Path.{_≡_, refl, sym, ap, subst, subst₂, _∙_}
+use mathlib.Core.Path.{_≡_, refl, sym, ap, ap₂, subst, _∙_}
 use Prim.Native.Nat.{ℕ, zero, suc, _+_}
 use lib.Dec.{eqb}
 use native.Mathlib.Omega.{arith}
@@ -60,15 +60,18 @@ module _ (M : Machine) where
         n : l .num ≡ suc (h .1)
         n = ap (λ l. l .num) (h .3 .2)
 
+        claim-here : F (l .rid) (l .num) ≡ by (lineNow M s (l .rid) (suc (h .1)) (h .2)) (s .contents (h .2 .object))
+        claim-here = ap (F (l .rid)) n ∙ next .0
+
         at : Tells ys (operated M s (l .rid) (suc (h .1)) (h .0) (h .2)) → Tells (ln l ∷ ys) s
         at ih = byBool (eqb (l .rid) r && eqb (l .num) k)
             (λ d.
             let g = and-true (eqb (l .rid) r) (eqb (l .num) k) d in
-            let claim-here : F r k ≡ by (lineNow M s (l .rid) (suc (h .1)) (h .2)) (s .contents (h .2 .object)) =
-            subst₂ (λ r k. F r k ≡ by (lineNow M s (l .rid) (suc (h .1)) (h .2)) (s .contents (h .2 .object)))
-            (yes-eqb (g .0)) (yes-eqb (g .1)) (ap (F (l .rid)) n ∙ next .0) in
+            let p : l .rid ≡ r = yes-eqb (g .0) in
+            let q : l .num ≡ k = yes-eqb (g .1) in
             let once : 1 + tally (does r k) ys ≡ suc (tally (does r k) ys) = omega arith in
-            rw (d, h .3 .0, h .3 .1, once, claim-here) (ap (λ z. some (z .0)) (sym (M .logged-apply (h .2) (s .contents (h .2 .object))))))
+            let same = ap (λ z. some (z .0)) (sym (M .logged-apply (h .2) (s .contents (h .2 .object)))) in
+            rw (d, h .3 .0, h .3 .1, once, ap₂ F (sym p) (sym q) ∙ claim-here) same)
             (λ d.
             let none-here : 0 + tally (does r k) ys ≡ tally (does r k) ys = omega arith in
             rw (d, h .3 .0, h .3 .1, n, eqb-self (suc (h .1)), none-here) ih)

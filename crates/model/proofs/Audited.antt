@@ -52,6 +52,9 @@ module _ (M : Machine) (opening : ℕ → M .Content) (known : ℕ → Bool) (b 
   abbrev to8 : List Check
   to8 = traceChecks known (b .trace) ++ (check 6 (row6 b) ∷ check 7 (row7 b) ∷ check 8 (row8 b) ∷ [])
 
+  abbrev from9 : List Check
+  from9 = check 9 (row9 b) ∷ replayChecks M opening b 1 (b .ofs)
+
   -- ── the rows that the checks have ──
   replay-rows : (n : ℕ) → eqb 10 n ≡ false → eqb 11 n ≡ false → eqb 12 n ≡ false → (k : ℕ) (xs : List Of) →
       All (NotRow n) (replayChecks M opening b k xs)
@@ -62,8 +65,7 @@ module _ (M : Machine) (opening : ℕ → M .Content) (known : ℕ → Bool) (b 
   rows-to-8 n a c d e = (a, (a, (c, (d, (e, tt)))))
 
   no-row-0 : All (NotRow 0) checks
-  no-row-0 = all-append (NotRow 0) to8 (check 9 (row9 b) ∷ replayChecks M opening b 1 (b .ofs))
-      (rows-to-8 0 refl refl refl refl) (refl, replay-rows 0 refl refl refl 1 (b .ofs))
+  no-row-0 = all-append (NotRow 0) to8 from9 (rows-to-8 0 refl refl refl refl) (refl, replay-rows 0 refl refl refl 1 (b .ofs))
 
   -- ── verdict 0 ──
   -- what verdict 0 leaves of the rows
@@ -119,14 +121,12 @@ module _ (M : Machine) (opening : ℕ → M .Content) (known : ℕ → Bool) (b 
   unfolding audit
   audit-left = (
     λ e.
-        let c = fault-clear 9 to8 (check 9 (row9 b) ∷ replayChecks M opening b 1 (b .ofs)) (rows-to-8 9 refl refl refl refl)
-        (ap (λ v. v .number) e) in
+        let c = fault-clear 9 to8 from9 (rows-to-8 9 refl refl refl refl) (ap (λ v. v .number) e) in
         let r = c .0 in
         ((r .0, r .1 .0, r .1 .1 .0, r .1 .1 .1 .0, r .1 .1 .1 .1 .0), λ i. stays (rw i at (c .1))),
     λ h.
         let r = h .0 in
-        clear-fault to8 (check 9 (row9 b) ∷ replayChecks M opening b 1 (b .ofs)) (r .0, (r .1, (r .2, (r .3, (r .4, tt)))))
-        ∙ found (mergeOf b .1) (h .1),
+        clear-fault to8 from9 (r .0, (r .1, (r .2, (r .3, (r .4, tt))))) ∙ found (mergeOf b .1) (h .1),
   )
     where
       stays : firstFault (replayChecks M opening b 1 (b .ofs)) .number ≡ 9 → ⊥

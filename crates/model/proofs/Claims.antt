@@ -5,7 +5,7 @@ use mathlib.Core.Logic.{_≢_, _↔_}
 use mathlib.Core.Option.{none}
 use mathlib.Core.Path.{_≡_, refl, sym, subst, _∙_}
 use Prim.Native.Nat.{ℕ, zero, suc, _≤_}
-use borrow.Author.Tests.{ltb-true, ltb-false}
+use borrow.Author.Tests.{ltb-false, le-ltb}
 use lib.Dec.{eqb, ltb}
 use lib.ListN.{length}
 use native.Mathlib.Omega.{arith}
@@ -93,9 +93,7 @@ module _ (ofs : List Of) where
   counted7 past (l ∷ ls) r u f =
       let n : named ofs (l .rid) ≡ true = counted-named ofs (l .rid) (omega (arith, r .0 .low, r .0 .high)) in
       let z : eqb (l .num) 0 ≡ false = eqb-no {a = l .num} {b = 0} (λ i. omega (arith, r .0 .low)) in
-      let c : ltb (countOf ofs (l .rid)) (l .num) ≡ false = byBool (ltb (countOf ofs (l .rid)) (l .num))
-      (λ d. absurd (omega (arith, ltb-true (countOf ofs (l .rid)) (l .num) d, r .0 .high)))
-      (λ d. d) in
+      let c : ltb (countOf ofs (l .rid)) (l .num) ≡ false = le-ltb (countOf ofs (l .rid)) (l .num) (r .0 .high) in
       (rw (n, z, c, f .0), counted7 (l ∷ past) ls (r .1) (u .1) (unique-fresh l past ls (u .0) (f .1)))
 
 -- ── row 8 ──

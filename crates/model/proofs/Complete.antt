@@ -41,7 +41,6 @@ use Rattle.model.specs.Replay.{
   Reply,
   said,
   responseOf,
-  Outcome,
   ended,
   Answer,
   wrong,
@@ -63,7 +62,7 @@ use Rattle.model.proofs.Nodes.{eventsIn}
 use Rattle.model.proofs.Passes.{Along, Passed, Passes}
 use Rattle.model.proofs.Placed.{Finished, place, placed-unique, placed-ahead}
 use Rattle.model.proofs.Requests.{ofs-counted, ofs-asked}
-use Rattle.model.proofs.Runs.{Runs, persist, grows}
+use Rattle.model.proofs.Runs.{Runs, same-open, persist, grows}
 use Rattle.model.proofs.Trace.{Formed}
 
 -- ── numbers within the counts ──
@@ -122,13 +121,11 @@ module _ (M : Machine) (opening : ℕ → M .Content) (b : Batch) (t : State M) 
     pub sum : k + left ≡ operationsOf M (t .phase r)
     pub ends : replay M (F r) (rep r) left (suc k) p (advance p) ≡ ended (rep r) (pathOf M (t .phase r))
 
-  replay-op : (a : Reply) (s : State M) (r k m : ℕ) (p : Process) (o : Op) (d : Outcome) →
-      F r (suc k) ≡ by (lineNow M s r (suc k) o) (s .contents (o .object)) → advance p ≡ op o →
-      replay M (F r) a m (suc (suc k)) (resume p (answerNow M s o)) (advance (resume p (answerNow M s o))) ≡ d →
-      replay M (F r) a (suc m) (suc k) p (advance p) ≡ d
-  replay-op b s r k m p o d f a h =
+  replay-op : (s : State M) (r k : ℕ) (p : Process) (o : Op) → F r (suc k) ≡ by (lineNow M s r (suc k) o) (s .contents (o .object)) →
+      advance p ≡ op o → Replays r (resume p (answerNow M s o)) (suc k) → Replays r p k
+  replay-op s r k p o f a x =
       let c : compare M o (F r (suc k)) ≡ right (answerNow M s o) = rw f (rw (op-same (lineNow M s r (suc k) o .op))) in
-      rw (a, replay, c) h
+      record { left = suc (x .left); sum = omega (arith, x .sum); ends = rw (a, replay, c) (x .ends) }
 
   replay-end : (r : ℕ) (p : Process) (k u v : ℕ) → rep r ≡ said u v → advance p ≡ stop u v → t .phase r ≡ closed (pathAtEnd p) k →
       Replays r p k
@@ -154,11 +151,9 @@ module _ (M : Machine) (opening : ℕ → M .Content) (b : Batch) (t : State M) 
       let w = pathAtEnd (h .0) in
       byEq q r
       (λ i d.
-      let g = h .2 in
-      let j : h .0 ≡ p = cc in
-      let j′ : h .1 ≡ k = cc in
+      let j = same-open M s q r (h .0) p (h .1) k i (h .2) e in
       let c : t .phase r ≡ closed w (h .1) = persist M ys s′ t r w (h .1) (h .4) (upd-at (s .phase) (closed w (h .1)) i) in
-      replay-end r p k u v (rw d at a) (ap advance (sym j) ∙ h .3) (c ∙ ap₂ (λ p k. closed (pathAtEnd p) k) j j′))
+      replay-end r p k u v (rw d at a) (ap advance (sym (j .0)) ∙ h .3) (c ∙ ap₂ (λ p k. closed (pathAtEnd p) k) (j .0) (j .1)))
       (λ i d. replays ys s′ (h .4) ah r p k (rw d at a) (upd-other (s .phase) (closed w (h .1)) i ∙ e))
   replays (ln l ∷ ys) s h ah r p k a e =
       let p′ = resume (h .0) (answerNow M s (h .2)) in
@@ -167,18 +162,11 @@ module _ (M : Machine) (opening : ℕ → M .Content) (b : Batch) (t : State M) 
       let nx = ahead-line l ys s (h .1) (h .0) (h .2) (h .3 .2) ah in
       byEq (l .rid) r
       (λ i _.
-      let g = h .3 .0 in
-      let j : h .0 ≡ p = cc in
-      let j′ : h .1 ≡ k = cc in
-      let x = replays ys s′ (h .4) (nx .1) (l .rid) p′ (suc (h .1))
-      (subst (λ q. rep q ≡ responseOf (eventsIn ys) q) (sym i) a) (upd-same (s .phase) (l .rid) next) in
-      let y : Replays (l .rid) (h .0) (h .1) = record {
-        left = suc (x .left);
-        sum = omega (arith, x .sum);
-        ends = replay-op (rep (l .rid)) s (l .rid) (h .1) (x .left) (h .0) (h .2) (ended (rep (l .rid)) (pathOf M (t .phase (l .rid))))
-            (nx .0) (h .3 .1) (x .ends);
-      } in
-      subst (λ r. Replays r p k) i (subst₂ (Replays (l .rid)) j j′ y))
+      let j = same-open M s (l .rid) r (h .0) p (h .1) k i (h .3 .0) e in
+      let a′ = subst (λ q. rep q ≡ responseOf (eventsIn ys) q) (sym i) a in
+      let x = replays ys s′ (h .4) (nx .1) (l .rid) p′ (suc (h .1)) a′ (upd-same (s .phase) (l .rid) next) in
+      let y = replay-op s (l .rid) (h .1) (h .0) (h .2) (nx .0) (h .3 .1) x in
+      subst (λ r. Replays r p k) i (subst₂ (Replays (l .rid)) (j .0) (j .1) y))
       (λ i _. replays ys s′ (h .4) (nx .1) r p k a (upd-other (s .phase) next i ∙ e))
 
   -- so does the replay of a request that has not come yet
@@ -286,17 +274,16 @@ module _ (M : Machine) (opening : ℕ → M .Content) (b : Batch) (f : Formed b)
       (ap (λ es. requestOf M es (x .rid)) (sym (p .events)))
       (a .counts x m ∙ sym (ofs-counted b f x m)) refl
 
-  ended-group : (x : Of) → List·Memᴰ x (b .ofs) →
-      outcome M opening b (x .rid) ≡ ended (responseOf (b .trace) (x .rid)) (a .groupPath (x .group))
+  abbrev EndedBy : ℕ → ℕ → Type 0
+  EndedBy r g = outcome M opening b r ≡ ended (responseOf (b .trace) r) (a .groupPath g)
+
+  ended-group : (x : Of) → List·Memᴰ x (b .ofs) → EndedBy (x .rid) (x .group)
   ended-group x m = ends x m ∙ ap (ended (responseOf (b .trace) (x .rid))) (a .paths x m)
 
   passed : (x : Of) → List·Memᴰ x (b .ofs) → Passed M opening b x
   passed x m =
       let l = first (b .ofs) x m in
-      let r = firstOf (b .ofs) (x .group) in
-      let e : outcome M opening b r ≡ ended (responseOf (b .trace) r) (a .groupPath (x .group)) =
-      subst₂ (λ r g. outcome M opening b r ≡ ended (responseOf (b .trace) r) (a .groupPath g)) (l .is) (l .group)
-      (ended-group (l .of) (l .mem)) in
+      let e = subst₂ EndedBy (l .is) (l .group) (ended-group (l .of) (l .mem)) in
       record { path = a .groupPath (x .group); replayed = ended-group x m; grouped = subst (Along (a .groupPath (x .group))) (sym e) refl }
 
   full : (x : Of) → List·Memᴰ x (b .ofs) → Full (b .log) x

@@ -31,7 +31,7 @@ use Rattle.ordering.proofs.Basics.{clash, byBool, byEq, and-true, yes-eqb, eqb-
 use Rattle.ordering.proofs.Lists.{mem-all, tally-append}
 use Rattle.model.specs.Batch.{Batch, requested, answered, countOf, claims, claimed}
 use Rattle.model.specs.Nodes.{Node, ev, ln, lane, rid, num, nodes}
-use Rattle.model.proofs.Claims.{Counted, Unique, Reported, counted-mem}
+use Rattle.model.proofs.Claims.{Counted, Unique, Full, Reported, counted-mem}
 use Rattle.model.proofs.Mapped.{later-map}
 use Rattle.model.proofs.Nodes.{nodes-events}
 use Rattle.model.proofs.Requests.{OfRequest, request-of, Named, events-named, ofs-counted}
@@ -173,8 +173,8 @@ answered-later past (e ∷ es) r prog x y s v o m k =
     at (inr m) (inl j) ih =
         let o′ : InOrder past (Response r s v ∷ es) = subst (λ e. InOrder past (e ∷ es)) (sym j) o in
         let a : requested r past ≡ true = o′ .0 in
-        let n : requested r past ≡ false =
-        unrequested past e r (not-yet (e ∷ past) es r prog x y (in-order-tail past e es o) m) in
+        let later = not-yet (e ∷ past) es r prog x y (in-order-tail past e es o) m in
+        let n : requested r past ≡ false = unrequested past e r later in
         clash (cc)
     at (inr m) (inr k) ih =
         let h = ih m k in
@@ -224,9 +224,9 @@ module _ (b : Batch) (f : Formed b) (h : Reported b) where
       (request-of (λ r. Standing r 0) (b .trace) (b .ofs) (f .matching) (request-mem (OfRequest (λ r. Standing r 0)) (b .trace)
       (λ r p x y m. (ev (Request r p x y), in-trace b (Request r p x y) m, refl, refl)) (λ r s v. tt))) (n .1))
   standing r n (suc k) l =
-      let full = mem-all (λ x. (k : ℕ) → 1 ≤ k → k ≤ x .count → claimed (b .log) (x .rid) k ≡ true) (h .full) (n .1) in
-      let q = claimed-line (b .log) (n .0 .rid) (suc k)
-      (full (suc k) (omega arith) (omega (arith, ofs-counted b f (n .0) (n .1), ap cnt (n .2)))) in
+      let full = mem-all (Full (b .log)) (h .full) (n .1) in
+      let i : suc k ≤ n .0 .count = omega (arith, ofs-counted b f (n .0) (n .1), ap cnt (n .2)) in
+      let q = claimed-line (b .log) (n .0 .rid) (suc k) (full (suc k) (omega arith) i) in
       (ln (q .0), in-log b (q .0) (q .1), q .2 ∙ n .2, q .3)
 
   line-counted : (l : Entry) → List·Memᴰ l (b .log) → Counted cnt l

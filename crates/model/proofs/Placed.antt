@@ -116,37 +116,40 @@ module _ (M : Machine) (opening : ℕ → M .Content) (b : Batch) where
     pub finished : All (Finished M (countOf (b .ofs)) (a .final)) items
     pub placed : OrderOf b items
 
-  pub place : Formed b → (a : Allowed M opening b) → Placed a
-  place f a =
-      let o = subst (InOrder []) (sym (a .events)) (f .inOrder) in
-      let r = ran M (a .order) [] (initial M opening) (a .final) o (λ r _. refl) (a .runs) in
-      let ee = ap eventsOf (r .items) ∙ a .events in
-      let le : (o : ℕ) → linesOf o (r .nodes) ≡ logOf o (b .log) =
-      λ o. sym (runs-logs M (r .nodes) (initial M opening) (a .final) (r .runs) o) ∙ a .logs o in
-      let lanes = same-lanes b (r .nodes) ee le in
-      let fi = all-lanes lane Fin (r .nodes) (nodes b) lanes (all-append Fin (map ln (b .log)) (map ev (b .trace))
-      (all-map Fin ln (b .log) (all-any (λ l. Unit {0}) (λ l. tt) (b .log)))
-      (all-map Fin ev (b .trace) (all-imp (λ e. Named b (rid (ev e))) (λ e. Fin (ev e)) (λ e n. named-fin (rid (ev e)) n) (b .trace)
-      (events-named b f)))) in
-      record {
-        items = r .nodes;
-        order = r .items;
-        runs = r .runs;
-        events = ee;
-        lines = le;
-        finished = fi;
-        placed = record {
-          lanes = lanes;
-          numbered = numbered M cnt (a .final) (r .nodes) (initial M opening) (λ r. 0) (r .runs) fi (λ r. refl);
-        };
-      }
-    where
-      Fin : Node → Type 0
-      Fin = Finished M cnt (a .final)
+  module _ (f : Formed b) (a : Allowed M opening b) where
+    abbrev Ends : Node → Type 0
+    Ends = Finished M cnt (a .final)
 
-      named-fin : (q : ℕ) → Named b q → operationsOf M (a .final .phase q) ≡ cnt q
-      named-fin q n = subst (λ q. operationsOf M (a .final .phase q) ≡ cnt q) (n .2)
-          (a .counts (n .0) (n .1) ∙ sym (ofs-counted b f (n .0) (n .1)))
+    named-ends : (q : ℕ) → Named b q → operationsOf M (a .final .phase q) ≡ cnt q
+    named-ends q n = subst (λ q. operationsOf M (a .final .phase q) ≡ cnt q) (n .2)
+        (a .counts (n .0) (n .1) ∙ sym (ofs-counted b f (n .0) (n .1)))
+
+    all-end : All Ends (nodes b)
+    all-end = all-append Ends (map ln (b .log)) (map ev (b .trace))
+        (all-map Ends ln (b .log) (all-any (λ l. Unit {0}) (λ l. tt) (b .log)))
+        (all-map Ends ev (b .trace) (all-imp (λ e. Named b (rid (ev e))) (λ e. Ends (ev e)) (λ e. named-ends (rid (ev e))) (b .trace)
+        (events-named b f)))
+
+    pub place : Placed a
+    place =
+        let o = subst (InOrder []) (sym (a .events)) (f .inOrder) in
+        let r = ran M (a .order) [] (initial M opening) (a .final) o (λ r _. refl) (a .runs) in
+        let logs = runs-logs M (r .nodes) (initial M opening) (a .final) (r .runs) in
+        let events = ap eventsOf (r .items) ∙ a .events in
+        let lanes = same-lanes b (r .nodes) events (λ o. sym (logs o) ∙ a .logs o) in
+        let finished = all-lanes lane Ends (r .nodes) (nodes b) lanes all-end in
+        record {
+          items = r .nodes;
+          order = r .items;
+          runs = r .runs;
+          events = events;
+          lines = λ o. sym (logs o) ∙ a .logs o;
+          finished = finished;
+          placed = record {
+            lanes = lanes;
+            numbered = numbered M cnt (a .final) (r .nodes) (initial M opening) (λ r. 0) (r .runs) finished (λ r. refl);
+          };
+        }
 
   module _ (a : Allowed M opening b) (p : Placed a) where
     pub placed-unique : Unique (b .log)

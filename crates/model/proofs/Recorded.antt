@@ -239,7 +239,8 @@ module _ (M : Machine) (known : ℕ → Bool) (limit : ℕ) where
     did-few h h′ m (rests r w n e) f = f
 
     pub wrote-few : (ms : List Move) (b : Batch) → Wrote objects opening ms b → length (b .log) ≤ limit
-    wrote-few ms b w =
-        let f : Few [] (w .host) = wrote-keeps Few (λ m. Unit {0}) (λ h h′ m ms _ d. did-few h h′ m d) objects opening ms b w
-        (all-any (λ m. Unit {0}) (λ m. tt) ms) (ap length (no-logs 0 objects), omega arith) in
-        subst (λ b. length (b .log) ≤ limit) (w .batch) (omega (arith, f .0, f .1))
+    wrote-few ms b w = subst (λ b. length (b .log) ≤ limit) (w .batch) (omega (arith, f .0, f .1))
+      where
+        f : Few [] (w .host)
+        f = wrote-keeps Few (λ m. Unit {0}) (λ h h′ m ms _ d. did-few h h′ m d) objects opening ms b w
+            (all-any (λ m. Unit {0}) (λ m. tt) ms) (ap length (no-logs 0 objects), omega arith)

@@ -66,6 +66,12 @@ module _ (M : Machine) where
       requested r past ≡ true → Fresh past t
   fresh-upd past s t r f i h a q e = ap (λ g. g q) i ∙ byEq r q (λ i _. clash (cc)) (λ i _. upd-other (s .phase) f i ∙ h q e)
 
+  fresh-arrived : (past : List Event) (s : State M) (r prog a b : ℕ) → Fresh past s →
+      Fresh (Request r prog a b ∷ past) (arrived M s r prog a b)
+  fresh-arrived past s r prog a b h q d = byEq r q
+      (λ i c. let d′ = rw c at d in clash (cc))
+      (λ i c. upd-other (s .phase) (opened (start prog a b) 0) i ∙ h q (rw c at d))
+
   opened-requested : (past : List Event) (s : State M) (r : ℕ) (p : Process) (k : ℕ) → Fresh past s → s .phase r ≡ opened p k →
       requested r past ≡ true
   opened-requested past s r p k h e = byBool (requested r past) (λ d. d) (λ d. let g = h r d in clash (cc))
@@ -74,10 +80,7 @@ module _ (M : Machine) where
       Ran xs s t
   ran [] past s t o fr e = record { nodes = []; items = refl; runs = cc }
   ran (event (Request r prog a b) ∷ xs) past s t o fr e =
-      let fresh : Fresh (Request r prog a b ∷ past) (arrived M s r prog a b) = λ q d. byEq r q
-      (λ i c. let d′ = rw c at d in clash (cc))
-      (λ i c. upd-other (s .phase) (opened (start prog a b) 0) i ∙ fr q (rw c at d)) in
-      let h = ran xs (Request r prog a b ∷ past) (arrived M s r prog a b) t (o .1) fresh e in
+      let h = ran xs (Request r prog a b ∷ past) (arrived M s r prog a b) t (o .1) (fresh-arrived past s r prog a b fr) e in
       record {
         nodes = ev (Request r prog a b) ∷ h .nodes;
         items = ap (λ t. event (Request r prog a b) ∷ t) (h .items);
@@ -115,8 +118,8 @@ module _ (M : Machine) where
           does : (x : Next) → advance p ≡ x → Ran (operation r k ∷ xs) s t
           does (op o) c = byEq k (suc n)
               (λ i g.
-              let fresh = fresh-upd past s (operated M s r k p o) r (opened (resume p (answerNow M s o)) k) refl fr
-              (opened-requested past s r p n fr d) in
+              let asked = opened-requested past s r p n fr d in
+              let fresh = fresh-upd past s (operated M s r k p o) r (opened (resume p (answerNow M s o)) k) refl fr asked in
               let h = ih (operated M s r k p o) fresh (rw (d, c, g) at e) in
               record {
                 nodes = ln (lineNow M s r k o) ∷ h .nodes;
@@ -149,6 +152,10 @@ module _ (M : Machine) where
       ∙ joined s ys l (l .rid) (suc (h .1)) (h .0) (h .2) (h .3 .2) o
 
   -- ── phases ──
+  pub same-open : (s : State M) (q r : ℕ) (p p′ : Process) (k k′ : ℕ) → q ≡ r → s .phase q ≡ opened p k → s .phase r ≡ opened p′ k′ →
+      (p ≡ p′) × (k ≡ k′)
+  same-open s q r p p′ k k′ i g e = (cc, cc)
+
   -- a closed request stays as it is
   pub persist : (ys : List Node) (s t : State M) (r : ℕ) (w : List ℕ) (n : ℕ) → Runs ys s t → s .phase r ≡ closed w n →
       t .phase r ≡ closed w n
@@ -176,18 +183,16 @@ module _ (M : Machine) where
       let end = closed (pathAtEnd (h .0)) (h .1) in
       byEq q r
       (λ i _.
-      let g = h .2 in
-      let j : h .1 ≡ k = cc in
+      let j = same-open s q r (h .0) p (h .1) k i (h .2) e in
       let c = persist ys (replied M s q (h .0) (h .1)) t r (pathAtEnd (h .0)) (h .1) (h .4) (upd-at (s .phase) end i) in
-      omega (arith, ap (operationsOf M) c))
+      omega (arith, j .1, ap (operationsOf M) c))
       (λ i _. grows ys (replied M s q (h .0) (h .1)) t r p k (h .4) (upd-other (s .phase) end i ∙ e))
   grows (ln l ∷ ys) s t r p k h e =
       let p′ = resume (h .0) (answerNow M s (h .2)) in
       let s′ = operated M s (l .rid) (suc (h .1)) (h .0) (h .2) in
       byEq (l .rid) r
       (λ i _.
-      let g = h .3 .0 in
-      let j : h .1 ≡ k = cc in
+      let j = same-open s (l .rid) r (h .0) p (h .1) k i (h .3 .0) e in
       let c = grows ys s′ t r p′ (suc (h .1)) (h .4) (upd-at (s .phase) (opened p′ (suc (h .1))) i) in
-      omega arith)
+      omega (arith, j .1, c))
       (λ i _. grows ys s′ t r p k (h .4) (upd-other (s .phase) (opened p′ (suc (h .1))) i ∙ e))

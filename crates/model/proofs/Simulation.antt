@@ -182,8 +182,8 @@ module _ (M : Machine) (F : ℕ → ℕ → Claim M) (count : ℕ → ℕ) (rep 
       let o = w .operation in
       let here = s .contents (l .op .object) in
       let f : F r (l .num) ≡ by l here = (rw (eqb-self (l .op .object)) at (inv .ahead (l .op .object))) .0 in
-      let x : compare M o (by l here) ≡ right (w .answer) =
-      subst (λ c. compare M o c ≡ right (w .answer)) (ap (F r) (sym m) ∙ f) (w .compared) in
+      let g = ap (F r) (sym m) ∙ f in
+      let x : compare M o (by l here) ≡ right (w .answer) = subst (λ c. compare M o c ≡ right (w .answer)) g (w .compared) in
       let y = compared-right o l here (w .answer) x in
       let j : l .op .object ≡ o .object = ap (λ o. o .object) (y .1) in
       let z : l .op ≡ shown M o (answerNow M s o) = y .1 ∙ ap (λ i. shown M o (apply o (s .contents i) .0)) j in
