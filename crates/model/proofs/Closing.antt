@@ -1,20 +1,19 @@
 -- Every allowed order ends with the same contents: those that the reported logs give.
-use mathlib.Core.List.{List, [], _∷_}
-use mathlib.Core.Path.{_≡_, sym, ap, subst, _∙_}
+use mathlib.Core.List.{List, _∷_}
+use mathlib.Core.Path.{_≡_, refl, sym, ap, _∙_}
 use Prim.Native.Nat.{ℕ, suc}
 use Rattle.text.specs.declared.report.Op.{Op}
-use Rattle.text.specs.declared.trace.Event.the-variants.{Request, Response}
 use Rattle.ordering.specs.Maps.{upd}
 use Rattle.ordering.proofs.Basics.{same-or, eqb-self, upd-same, upd-other}
 use Rattle.model.specs.Allowed.{Allowed}
 use Rattle.model.specs.Answers.{written}
 use Rattle.model.specs.Batch.{Batch, logOf}
 use Rattle.model.specs.Machine.{Machine}
-use Rattle.model.specs.Nodes.{Node, ev, ln}
-use Rattle.model.specs.PlainRun.{State, initial, arrived, lineNow, operated, replied}
+use Rattle.model.specs.Nodes.{Node, ln}
+use Rattle.model.specs.PlainRun.{State, lineNow, operated}
 use Rattle.model.proofs.Nodes.{linesOf}
 use Rattle.model.proofs.Placed.{place}
-use Rattle.model.proofs.Runs.{Runs}
+use Rattle.model.proofs.Runs.{Runs, ends, arrives, replies, operates}
 use Rattle.model.proofs.Trace.{Formed}
 
 module _ (M : Machine) where
@@ -33,18 +32,14 @@ module _ (M : Machine) where
       (ap (λ z. written M (z .1) (linesOf (x .object) ys)) (sym (M .logged-apply x c))))
       (λ n e. rw (upd-other (s .contents) after n, e))
 
-  runs-contents : (ys : List Node) (s t : State M) → Runs M ys s t → (o : ℕ) → t .contents o ≡ written M (s .contents o) (linesOf o ys)
-  runs-contents [] s t h o = ap (λ z. z .contents o) (sym h)
-  runs-contents (ev (Request r prog a b) ∷ ys) s t h o = runs-contents ys (arrived M s r prog a b) t (h .1) o
-  runs-contents (ev (Response r u v) ∷ ys) s t h o = runs-contents ys (replied M s r (h .0) (h .1)) t (h .4) o
-  runs-contents (ln l ∷ ys) s t h o =
-      let s′ = operated M s (l .rid) (suc (h .1)) (h .0) (h .2) in
-      runs-contents ys s′ t (h .4) o
-      ∙ subst (λ l′. written M (s′ .contents o) (linesOf o ys) ≡ written M (s .contents o) (linesOf o (ln l′ ∷ ys))) (sym (h .3 .2))
-      (wrote s ys (l .rid) (suc (h .1)) (h .0) (h .2) o)
+  runs-contents : {ys : List Node} {s t : State M} → Runs M ys s t → (q : ℕ) → t .contents q ≡ written M (s .contents q) (linesOf q ys)
+  runs-contents ends q = refl
+  runs-contents (arrives r prog a b f h) q = runs-contents h q
+  runs-contents (replies r u v p k f d h) q = runs-contents h q
+  runs-contents (operates {s = s} {ys = ys} r p k o f d h) q = runs-contents h q ∙ wrote s ys r (suc k) p o q
 
   pub closing : (opening : ℕ → Content) (b : Batch) → Formed b → (a : Allowed M opening b) (o : ℕ) →
       a .final .contents o ≡ written M (opening o) (logOf o (b .log))
   closing opening b f a o =
       let p = place M opening b f a in
-      runs-contents (p .items) (initial M opening) (a .final) (p .runs) o ∙ ap (written M (opening o)) (p .lines o)
+      runs-contents (p .runs) o ∙ ap (written M (opening o)) (p .lines o)

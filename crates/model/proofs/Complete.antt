@@ -11,7 +11,6 @@ use native.Mathlib.Omega.{arith}
 use Rattle.text.specs.declared.report.Entry.{Entry}
 use Rattle.text.specs.declared.report.Of.{Of}
 use Rattle.text.specs.declared.report.Op.{Op}
-use Rattle.text.specs.declared.trace.Event.the-variants.{Request, Response}
 use Rattle.ordering.specs.Lists.{All}
 use Rattle.ordering.specs.Maps.{upd}
 use Rattle.ordering.proofs.Basics.{clash, byBool, byEq, same-or, upd-same, upd-at, upd-other}
@@ -28,7 +27,6 @@ use Rattle.model.specs.PlainRun.{
   opened,
   closed,
   State,
-  initial,
   arrived,
   answerNow,
   lineNow,
@@ -62,7 +60,7 @@ use Rattle.model.proofs.Nodes.{eventsIn}
 use Rattle.model.proofs.Passes.{Along, Passed, Passes}
 use Rattle.model.proofs.Placed.{Finished, place, placed-unique, placed-ahead}
 use Rattle.model.proofs.Requests.{ofs-counted, ofs-asked}
-use Rattle.model.proofs.Runs.{Runs, same-open, persist, grows}
+use Rattle.model.proofs.Runs.{Runs, ends, arrives, replies, operates, persist, grows}
 use Rattle.model.proofs.Trace.{Formed}
 
 -- ── numbers within the counts ──
@@ -83,27 +81,23 @@ module _ (M : Machine) (cnt : ℕ → ℕ) (t : State M) where
       (same-or (λ q. (upd (s .phase) r f q ≡ absent) ⊎ (operationsOf M (t .phase q) ≡ cnt q)) r q (inr g)
       (λ n _. rw (upd-other (s .phase) f n) (k q)))
 
-  run-counted : (ys : List Node) (s : State M) → Runs M ys s t → All (Finished M cnt t) ys → Counting s → All CountedNode ys
-  run-counted [] s h f k = tt
-  run-counted (ev (Request r prog a b) ∷ ys) s h f k =
-      let s′ = arrived M s r prog a b in
-      (tt, run-counted ys s′ (h .1) (f .1) (counting-upd s s′ r (opened (start prog a b) 0) refl k (f .0)))
-  run-counted (ev (Response r u v) ∷ ys) s h f k =
-      let s′ = replied M s r (h .0) (h .1) in
-      (tt, run-counted ys s′ (h .4) (f .1) (counting-upd s s′ r (closed (pathAtEnd (h .0)) (h .1)) refl k (f .0)))
-  run-counted (ln l ∷ ys) s h f k =
-      at (k (l .rid)) (run-counted ys (operated M s (l .rid) (suc (h .1)) (h .0) (h .2)) (h .4) (f .1))
+  run-counted : {ys : List Node} {s : State M} → Runs M ys s t → All (Finished M cnt t) ys → Counting s → All CountedNode ys
+  run-counted ends f k = tt
+  run-counted (arrives {s = s} r prog a b i h) f k =
+      (tt, run-counted h (f .1) (counting-upd s (arrived M s r prog a b) r (opened (start prog a b) 0) refl k (f .0)))
+  run-counted (replies {s = s} r u v p n i d h) f k =
+      (tt, run-counted h (f .1) (counting-upd s (replied M s r p n) r (closed (pathAtEnd p) n) refl k (f .0)))
+  run-counted (operates {s = s} {ys = ys} r p n o i d h) f k = at (k r) (λ c. run-counted h (f .1) c)
     where
-      at : (s .phase (l .rid) ≡ absent) ⊎ (operationsOf M (t .phase (l .rid)) ≡ cnt (l .rid)) →
-          (Counting (operated M s (l .rid) (suc (h .1)) (h .0) (h .2)) → All CountedNode ys) → All CountedNode (ln l ∷ ys)
-      at (inl e) ih = let g = h .3 .0 in clash (cc)
+      at : (s .phase r ≡ absent) ⊎ (operationsOf M (t .phase r) ≡ cnt r) → (Counting (operated M s r (suc n) p o) → All CountedNode ys) →
+          All CountedNode (ln (lineNow M s r (suc n) o) ∷ ys)
+      at (inl e) ih = clash (cc)
       at (inr g) ih =
-          let s′ = operated M s (l .rid) (suc (h .1)) (h .0) (h .2) in
-          let p′ = resume (h .0) (answerNow M s (h .2)) in
-          let next = opened p′ (suc (h .1)) in
-          let e : l .num ≡ suc (h .1) = ap (λ l. l .num) (h .3 .2) in
-          let c = grows M ys s′ t (l .rid) p′ (suc (h .1)) (h .4) (upd-same (s .phase) (l .rid) next) in
-          (record { low = omega arith; high = omega (arith, g) }, ih (counting-upd s s′ (l .rid) next refl k g))
+          let next = resume p (answerNow M s o) in
+          let c = grows M r next (suc n) h (upd-same (s .phase) r (opened next (suc n))) in (
+            record { low = omega arith; high = omega (arith, g, c) },
+            ih (counting-upd s (operated M s r (suc n) p o) r (opened next (suc n)) refl k g),
+          )
 
 -- ── the replays of a run ──
 module _ (M : Machine) (opening : ℕ → M .Content) (b : Batch) (t : State M) where
@@ -119,55 +113,45 @@ module _ (M : Machine) (opening : ℕ → M .Content) (b : Batch) (t : State M) 
   record Replays (r : ℕ) (p : Process) (k : ℕ) : Type 0 where
     pub left : ℕ
     pub sum : k + left ≡ operationsOf M (t .phase r)
-    pub ends : replay M (F r) (rep r) left (suc k) p (advance p) ≡ ended (rep r) (pathOf M (t .phase r))
+    pub result : replay M (F r) (rep r) left (suc k) p (advance p) ≡ ended (rep r) (pathOf M (t .phase r))
 
   replay-op : (s : State M) (r k : ℕ) (p : Process) (o : Op) → F r (suc k) ≡ by (lineNow M s r (suc k) o) (s .contents (o .object)) →
       advance p ≡ op o → Replays r (resume p (answerNow M s o)) (suc k) → Replays r p k
   replay-op s r k p o f a x =
       let c : compare M o (F r (suc k)) ≡ right (answerNow M s o) = rw f (rw (op-same (lineNow M s r (suc k) o .op))) in
-      record { left = suc (x .left); sum = omega (arith, x .sum); ends = rw (a, replay, c) (x .ends) }
+      record { left = suc (x .left); sum = omega (arith, x .sum); result = rw (a, replay, c) (x .result) }
 
   replay-end : (r : ℕ) (p : Process) (k u v : ℕ) → rep r ≡ said u v → advance p ≡ stop u v → t .phase r ≡ closed (pathAtEnd p) k →
       Replays r p k
-  replay-end r p k u v a z c = record { left = 0; sum = rw c (omega arith); ends = rw (c, a, z) }
+  replay-end r p k u v a z c = record { left = 0; sum = rw c (omega arith); result = rw (c, a, z) }
 
-  -- the claim of a line that is carried out, and what is ahead of it
-  ahead-line : (l : Entry) (ys : List Node) (s : State M) (k : ℕ) (p : Process) (o : Op) → l ≡ lineNow M s (l .rid) (suc k) o →
-      Ahead M F s (ln l ∷ ys) →
-      (F (l .rid) (suc k) ≡ by (lineNow M s (l .rid) (suc k) o) (s .contents (o .object)))
-      × Ahead M F (operated M s (l .rid) (suc k) p o) ys
-  ahead-line l ys s k p o e ah = ahead-next M F s (l .rid) k p o ys (subst (λ l. Ahead M F s (ln l ∷ ys)) e ah)
-
-  replays : (ys : List Node) (s : State M) → Runs M ys s t → Ahead M F s ys → (r : ℕ) (p : Process) (k : ℕ) →
+  replays : {ys : List Node} {s : State M} → Runs M ys s t → Ahead M F s ys → (r : ℕ) (p : Process) (k : ℕ) →
       rep r ≡ responseOf (eventsIn ys) r → s .phase r ≡ opened p k → Replays r p k
-  replays [] s h ah r p k a e =
-      let f : t .phase r ≡ opened p k = ap (λ z. z .phase r) (sym h) ∙ e in
-      record { left = 0; sum = rw f (omega arith); ends = rw (f, a) }
-  replays (ev (Request q prog x c) ∷ ys) s h ah r p k a e = byEq q r
-      (λ i _. let g = h .0 in clash (cc))
-      (λ i _. replays ys (arrived M s q prog x c) (h .1) ah r p k a (upd-other (s .phase) (opened (start prog x c) 0) i ∙ e))
-  replays (ev (Response q u v) ∷ ys) s h ah r p k a e =
-      let s′ = replied M s q (h .0) (h .1) in
-      let w = pathAtEnd (h .0) in
+  replays ends ah r p k a e = record { left = 0; sum = rw e (omega arith); result = rw (e, a) }
+  replays (arrives {s = s} q prog x y f h) ah r p k a e = byEq q r
+      (λ i _. clash (cc))
+      (λ i _. replays h ah r p k a (upd-other (s .phase) (opened (start prog x y) 0) i ∙ e))
+  replays (replies {s = s} q u v p′ k′ f d h) ah r p k a e =
+      let next = closed (pathAtEnd p′) k′ in
       byEq q r
-      (λ i d.
-      let j = same-open M s q r (h .0) p (h .1) k i (h .2) e in
-      let c : t .phase r ≡ closed w (h .1) = persist M ys s′ t r w (h .1) (h .4) (upd-at (s .phase) (closed w (h .1)) i) in
-      replay-end r p k u v (rw d at a) (ap advance (sym (j .0)) ∙ h .3) (c ∙ ap₂ (λ p k. closed (pathAtEnd p) k) (j .0) (j .1)))
-      (λ i d. replays ys s′ (h .4) ah r p k (rw d at a) (upd-other (s .phase) (closed w (h .1)) i ∙ e))
-  replays (ln l ∷ ys) s h ah r p k a e =
-      let p′ = resume (h .0) (answerNow M s (h .2)) in
-      let s′ = operated M s (l .rid) (suc (h .1)) (h .0) (h .2) in
-      let next = opened p′ (suc (h .1)) in
-      let nx = ahead-line l ys s (h .1) (h .0) (h .2) (h .3 .2) ah in
-      byEq (l .rid) r
+      (λ i c.
+      let j : p′ ≡ p = cc in
+      let j′ : k′ ≡ k = cc in
+      let z = persist M r (pathAtEnd p′) k′ h (upd-at (s .phase) next i) ∙ ap₂ (λ p k. closed (pathAtEnd p) k) j j′ in
+      replay-end r p k u v (rw c at a) (ap advance (sym j) ∙ d) z)
+      (λ i c. replays h ah r p k (rw c at a) (upd-other (s .phase) next i ∙ e))
+  replays (operates {s = s} {ys = ys} q p′ k′ o f d h) ah r p k a e =
+      let after = resume p′ (answerNow M s o) in
+      let next = opened after (suc k′) in
+      let nx = ahead-next M F s q k′ p′ o ys ah in
+      byEq q r
       (λ i _.
-      let j = same-open M s (l .rid) r (h .0) p (h .1) k i (h .3 .0) e in
+      let j : p′ ≡ p = cc in
+      let j′ : k′ ≡ k = cc in
       let a′ = subst (λ q. rep q ≡ responseOf (eventsIn ys) q) (sym i) a in
-      let x = replays ys s′ (h .4) (nx .1) (l .rid) p′ (suc (h .1)) a′ (upd-same (s .phase) (l .rid) next) in
-      let y = replay-op s (l .rid) (h .1) (h .0) (h .2) (nx .0) (h .3 .1) x in
-      subst (λ r. Replays r p k) i (subst₂ (Replays (l .rid)) (j .0) (j .1) y))
-      (λ i _. replays ys s′ (h .4) (nx .1) r p k a (upd-other (s .phase) next i ∙ e))
+      let x = replays h (nx .1) q after (suc k′) a′ (upd-same (s .phase) q next) in
+      subst (λ r. Replays r p k) i (subst₂ (Replays q) j j′ (replay-op s q k′ p′ o (nx .0) d x)))
+      (λ i _. replays h (nx .1) r p k a (upd-other (s .phase) next i ∙ e))
 
   -- so does the replay of a request that has not come yet
   abbrev Outcomes : ℕ → Type 0
@@ -177,28 +161,24 @@ module _ (M : Machine) (opening : ℕ → M .Content) (b : Batch) (t : State M) 
       Outcomes r
   started r p e c x =
       let z : x .left ≡ countOf (b .ofs) r = omega (arith, x .sum) in
-      rw (e, ← z) (x .ends)
+      rw (e, ← z) (x .result)
 
-  outcomes : (ys : List Node) (s : State M) → Runs M ys s t → Ahead M F s ys → (r : ℕ) (p : Process) → requestOf M (b .trace) r ≡ some p →
+  outcomes : {ys : List Node} {s : State M} → Runs M ys s t → Ahead M F s ys → (r : ℕ) (p : Process) → requestOf M (b .trace) r ≡ some p →
       rep r ≡ responseOf (eventsIn ys) r → requestOf M (b .trace) r ≡ requestOf M (eventsIn ys) r →
       operationsOf M (t .phase r) ≡ countOf (b .ofs) r → s .phase r ≡ absent → Outcomes r
-  outcomes [] s h ah r p q a c o e = clash (cc)
-  outcomes (ev (Request r′ prog x y) ∷ ys) s h ah r p q a c o e =
-      let s′ = arrived M s r′ prog x y in
+  outcomes ends ah r p q a c o e = clash (cc)
+  outcomes (arrives {s = s} r′ prog x y f h) ah r p q a c o e =
       let next = opened (start prog x y) 0 in
       byEq r′ r
-      (λ i d. started r (start prog x y) (rw d at c) o (replays ys s′ (h .1) ah r (start prog x y) 0 a (upd-at (s .phase) next i)))
-      (λ i d. outcomes ys s′ (h .1) ah r p q a (rw d at c) o (upd-other (s .phase) next i ∙ e))
-  outcomes (ev (Response r′ u v) ∷ ys) s h ah r p q a c o e = byEq r′ r
-      (λ i _. let g = h .2 in clash (cc))
-      (λ i d. outcomes ys (replied M s r′ (h .0) (h .1)) (h .4) ah r p q (rw d at a) c o
-      (upd-other (s .phase) (closed (pathAtEnd (h .0)) (h .1)) i ∙ e))
-  outcomes (ln l ∷ ys) s h ah r p q a c o e =
-      let nx = ahead-line l ys s (h .1) (h .0) (h .2) (h .3 .2) ah in
-      byEq (l .rid) r
-      (λ i _. let g = h .3 .0 in clash (cc))
-      (λ i _. outcomes ys (operated M s (l .rid) (suc (h .1)) (h .0) (h .2)) (h .4) (nx .1) r p q a c o
-      (upd-other (s .phase) (opened (resume (h .0) (answerNow M s (h .2))) (suc (h .1))) i ∙ e))
+      (λ i d. started r (start prog x y) (rw d at c) o (replays h ah r (start prog x y) 0 a (upd-at (s .phase) next i)))
+      (λ i d. outcomes h ah r p q a (rw d at c) o (upd-other (s .phase) next i ∙ e))
+  outcomes (replies {s = s} r′ u v p′ k f z h) ah r p q a c o e = byEq r′ r
+      (λ i _. clash (cc))
+      (λ i d. outcomes h ah r p q (rw d at a) c o (upd-other (s .phase) (closed (pathAtEnd p′) k) i ∙ e))
+  outcomes (operates {s = s} {ys = ys} r′ p′ k x f z h) ah r p q a c o e = byEq r′ r
+      (λ i _. clash (cc))
+      (λ i _. outcomes h (ahead-next M F s r′ k p′ x ys ah .1) r p q a c o
+      (upd-other (s .phase) (opened (resume p′ (answerNow M s x)) (suc k)) i ∙ e))
 
 -- ── a replay that ends has a line for each operation ──
 module _ (M : Machine) where
@@ -262,14 +242,14 @@ module _ (M : Machine) (opening : ℕ → M .Content) (b : Batch) (f : Formed b)
       let N = CountedNode M cnt (a .final) in
       all-unmap N ln (b .log) (all-append-left N (map ln (b .log)) (map ev (b .trace))
       (all-lanes lane N (nodes b) (p .items) (λ l. sym (p .placed .lanes l))
-      (run-counted M cnt (a .final) (p .items) (initial M opening) (p .runs) (p .finished) (λ r. inl refl))))
+      (run-counted M cnt (a .final) (p .runs) (p .finished) (λ r. inl refl))))
 
-  ends : (x : Of) → List·Memᴰ x (b .ofs) →
+  replayed : (x : Of) → List·Memᴰ x (b .ofs) →
       outcome M opening b (x .rid) ≡ ended (responseOf (b .trace) (x .rid)) (pathOf M (a .final .phase (x .rid)))
-  ends x m =
+  replayed x m =
       let p = place M opening b f a in
       let q = ofs-asked M b f x m in
-      outcomes M opening b (a .final) (p .items) (initial M opening) (p .runs) (placed-ahead M opening b a p) (x .rid) (q .0) (q .1)
+      outcomes M opening b (a .final) (p .runs) (placed-ahead M opening b a p) (x .rid) (q .0) (q .1)
       (ap (λ es. responseOf es (x .rid)) (sym (p .events)))
       (ap (λ es. requestOf M es (x .rid)) (sym (p .events)))
       (a .counts x m ∙ sym (ofs-counted b f x m)) refl
@@ -278,7 +258,7 @@ module _ (M : Machine) (opening : ℕ → M .Content) (b : Batch) (f : Formed b)
   EndedBy r g = outcome M opening b r ≡ ended (responseOf (b .trace) r) (a .groupPath g)
 
   ended-group : (x : Of) → List·Memᴰ x (b .ofs) → EndedBy (x .rid) (x .group)
-  ended-group x m = ends x m ∙ ap (ended (responseOf (b .trace) (x .rid))) (a .paths x m)
+  ended-group x m = replayed x m ∙ ap (ended (responseOf (b .trace) (x .rid))) (a .paths x m)
 
   passed : (x : Of) → List·Memᴰ x (b .ofs) → Passed M opening b x
   passed x m =
@@ -288,7 +268,7 @@ module _ (M : Machine) (opening : ℕ → M .Content) (b : Batch) (f : Formed b)
 
   full : (x : Of) → List·Memᴰ x (b .ofs) → Full (b .log) x
   full x m k i j = outcome-claimed M opening b (x .rid) (requestOf M (b .trace) (x .rid)) (responseOf (b .trace) (x .rid))
-      (pathOf M (a .final .phase (x .rid))) (ends x m) k i (omega (arith, ofs-counted b f x m))
+      (pathOf M (a .final .phase (x .rid))) (replayed x m) k i (omega (arith, ofs-counted b f x m))
 
   pub complete : Passes M opening b
   complete =

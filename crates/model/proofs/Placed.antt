@@ -5,7 +5,6 @@ use mathlib.Core.Path.{_≡_, refl, sym, ap, subst, _∙_}
 use Prim.Native.Nat.{ℕ, suc, _≤_}
 use native.Mathlib.Omega.{arith}
 use Rattle.text.specs.declared.report.Entry.{Entry}
-use Rattle.text.specs.declared.trace.Event.the-variants.{Request, Response}
 use Rattle.ordering.specs.Lists.{All, tally}
 use Rattle.ordering.specs.Maps.{upd}
 use Rattle.ordering.specs.Order.{bump, Numbered}
@@ -18,25 +17,13 @@ use Rattle.model.specs.Allowed.{eventsOf, Allowed}
 use Rattle.model.specs.Batch.{Batch, logOf, countOf, claims, claimed}
 use Rattle.model.specs.Machine.{Machine}
 use Rattle.model.specs.Nodes.{Node, ev, ln, itemOf, lane, rid, num, nodes, OrderOf}
-use Rattle.model.specs.PlainRun.{
-  Phase,
-  absent,
-  opened,
-  closed,
-  State,
-  initial,
-  arrived,
-  answerNow,
-  operated,
-  replied,
-  operationsOf,
-}
+use Rattle.model.specs.PlainRun.{Phase, absent, opened, closed, State, initial, answerNow, operationsOf}
 use Rattle.model.specs.Replay.{claim}
 use Rattle.model.proofs.Ahead.{Ahead, foretold-log}
 use Rattle.model.proofs.Claims.{Unique}
 use Rattle.model.proofs.Nodes.{eventsIn, linesOf, same-lanes}
 use Rattle.model.proofs.Requests.{Named, events-named, ofs-counted}
-use Rattle.model.proofs.Runs.{Runs, ran, runs-logs, persist}
+use Rattle.model.proofs.Runs.{Runs, ends, arrives, replies, operates, ran, runs-logs, persist}
 use Rattle.model.proofs.Trace.{InOrder, Formed}
 
 module _ (M : Machine) where
@@ -60,31 +47,21 @@ module _ (M : Machine) where
     Finished (ev e) = operationsOf M (t .phase (rid (ev e))) ≡ cnt (rid (ev e))
     Finished (ln l) = Unit {0}
 
-    numbered : (ys : List Node) (s : State M) (stage : ℕ → ℕ) → Runs M ys s t → All Finished ys →
+    numbered : {ys : List Node} {s : State M} (stage : ℕ → ℕ) → Runs M ys s t → All Finished ys →
         ((r : ℕ) → stage r ≡ stageOf (s .phase r)) → Numbered rid (num cnt) stage ys
-    numbered [] s stage h f g = tt
-    numbered (ev (Request r prog a b) ∷ ys) s stage h f g =
-        let e : stage r ≡ 0 = g r ∙ ap stageOf (h .0) in (
-          sym e,
-          numbered ys (arrived M s r prog a b) (bump stage r) (h .1) (f .1)
-              (stage-upd stage (s .phase) r (opened (start prog a b) 0) g (omega arith)),
-        )
-    numbered (ev (Response r u v) ∷ ys) s stage h f g =
-        let w = pathAtEnd (h .0) in
-        let e : stage r ≡ suc (h .1) = g r ∙ ap stageOf (h .2) in
-        let c = persist M ys (replied M s r (h .0) (h .1)) t r w (h .1) (h .4) (upd-same (s .phase) r (closed w (h .1))) in
-        let m : h .1 ≡ cnt r = sym (ap (operationsOf M) c) ∙ f .0 in (
-          omega arith,
-          numbered ys (replied M s r (h .0) (h .1)) (bump stage r) (h .4) (f .1)
-              (stage-upd stage (s .phase) r (closed w (h .1)) g (omega arith)),
-        )
-    numbered (ln l ∷ ys) s stage h f g =
-        let r = l .rid in
-        let e : stage r ≡ suc (h .1) = g r ∙ ap stageOf (h .3 .0) in (
-          ap (λ l. l .num) (h .3 .2) ∙ sym e,
-          numbered ys (operated M s r (suc (h .1)) (h .0) (h .2)) (bump stage r) (h .4) (f .1)
-              (stage-upd stage (s .phase) r (opened (resume (h .0) (answerNow M s (h .2))) (suc (h .1))) g (omega arith)),
-        )
+    numbered stage ends f g = tt
+    numbered stage (arrives {s = s} r prog a b i h) f g =
+        let e : stage r ≡ 0 = g r ∙ ap stageOf i in
+        (sym e, numbered (bump stage r) h (f .1) (stage-upd stage (s .phase) r (opened (start prog a b) 0) g (omega arith)))
+    numbered stage (replies {s = s} r u v p k i d h) f g =
+        let next = closed (pathAtEnd p) k in
+        let e : stage r ≡ suc k = g r ∙ ap stageOf i in
+        let m : k ≡ cnt r = sym (ap (operationsOf M) (persist M r (pathAtEnd p) k h (upd-same (s .phase) r next))) ∙ f .0 in
+        (omega arith, numbered (bump stage r) h (f .1) (stage-upd stage (s .phase) r next g (omega arith)))
+    numbered stage (operates {s = s} r p k o i d h) f g =
+        let next = opened (resume p (answerNow M s o)) (suc k) in
+        let e : stage r ≡ suc k = g r ∙ ap stageOf i in
+        (sym e, numbered (bump stage r) h (f .1) (stage-upd stage (s .phase) r next g (omega arith)))
 
 -- ── no number comes twice, so no operation is claimed twice ──
 -- a test that counts the lines of operation k of request r
@@ -134,7 +111,7 @@ module _ (M : Machine) (opening : ℕ → M .Content) (b : Batch) where
     place =
         let o = subst (InOrder []) (sym (a .events)) (f .inOrder) in
         let r = ran M (a .order) [] (initial M opening) (a .final) o (λ r _. refl) (a .runs) in
-        let logs = runs-logs M (r .nodes) (initial M opening) (a .final) (r .runs) in
+        let logs = runs-logs M (r .runs) in
         let events = ap eventsOf (r .items) ∙ a .events in
         let lanes = same-lanes b (r .nodes) events (λ o. sym (logs o) ∙ a .logs o) in
         let finished = all-lanes lane Ends (r .nodes) (nodes b) lanes all-end in
@@ -147,7 +124,7 @@ module _ (M : Machine) (opening : ℕ → M .Content) (b : Batch) where
           finished = finished;
           placed = record {
             lanes = lanes;
-            numbered = numbered M cnt (a .final) (r .nodes) (initial M opening) (λ r. 0) (r .runs) finished (λ r. refl);
+            numbered = numbered M cnt (a .final) (λ r. 0) (r .runs) finished (λ r. refl);
           };
         }
 

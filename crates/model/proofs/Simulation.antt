@@ -172,7 +172,7 @@ module _ (M : Machine) (F : ℕ → ℕ → Claim M) (count : ℕ → ℕ) (rep 
         phases = fits-upd stage (s .phase) r (opened (resume p (answerNow M s o)) (suc k)) (inv .phases) fit;
         ahead = ahead-next M F s r k p o ys (inv .ahead) .1;
       }))
-      (joined M s ys l r (suc k) p o refl)
+      (joined M s ys r (suc k) p o)
 
   sim-op : (l : Entry) (ys : List Node) → Simulated ys → (stage : ℕ → ℕ) (s : State M) → Numbered rid (num count) stage (ln l ∷ ys) →
       All Replayed ys → Invariant stage s (ln l ∷ ys) → (p : Process) (k n : ℕ) → s .phase (l .rid) ≡ opened p k → l .num ≡ suc k →
