@@ -29,7 +29,7 @@ does r k (ev e) = false
 does r k (ln l) = claims r k l
 
 module _ (M : Machine) where
-  open Machine M using (Process, Content, advance, apply)
+  open Machine M using (Process, Content, advance)
 
   -- the answer of an operation that stands n times in an order
   abbrev told : (n : ℕ) → Claim M → Option ℕ

@@ -65,7 +65,7 @@ use Rattle.model.proofs.Trace.{Formed}
 
 -- ── numbers within the counts ──
 module _ (M : Machine) (cnt : ℕ → ℕ) (t : State M) where
-  open Machine M using (Content, start, resume, pathAtEnd)
+  open Machine M using (start, resume, pathAtEnd)
 
   abbrev CountedNode : Node → Type 0
   CountedNode (ev e) = Unit {0}

@@ -36,7 +36,7 @@ use Rattle.model.proofs.Nodes.{linesOf}
 use Rattle.model.proofs.Trace.{InOrder}
 
 module _ (M : Machine) where
-  open Machine M using (Process, Content, start, advance, resume, pathAtEnd)
+  open Machine M using (Process, start, advance, resume, pathAtEnd)
 
   pub data Runs : List Node → State M → State M → Type 0 where
     ends : {s : State M} → Runs [] s s
