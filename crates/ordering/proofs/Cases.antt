@@ -2,11 +2,14 @@
 -- trace events.
 use mathlib.Core.Path.{_≡_, refl}
 use mathlib.Core.Bool.{cond}
-use mathlib.Core.List.{[], _∷_, _++_}
+use mathlib.Core.List.{List, [], _∷_, _++_, List·Memᴰ, List·Memᴰ·head, List·Memᴰ·tail}
 use Prim.Native.Nat.{ℕ, suc, _-_, _%_, _/_}
 use lib.Dec.{ltb}
+use native.Mathlib.Omega.{arith}
 use Rattle.ordering.specs.Order.{bump, merge}
-use Rattle.ordering.specs.Positions.{upFrom, mergeOf, orderIn}
+use Rattle.ordering.specs.Chain.{Cycle, one, more}
+use Rattle.ordering.specs.Before.{ComesBefore, logged, next}
+use Rattle.ordering.specs.Positions.{upFrom, slot, value, mergeOf, orderIn}
 
 -- ── batches A, B and C ──
 -- C: two requests that run side by side; request 1, its write, request 2, its write, both reads, both responses
@@ -16,10 +19,33 @@ unfolding mergeOf bump
 case-c = refl
 
 -- B: C with the two lines of each object exchanged; only the requests are taken
-case-b : mergeOf (1 ∷ 1 ∷ 2 ∷ 2 ∷ 0 ∷ 0 ∷ 0 ∷ 0 ∷ []) (1 ∷ 0 ∷ 0 ∷ 1 ∷ 0 ∷ 1 ∷ 0 ∷ 1 ∷ []) (2 ∷ 1 ∷ 2 ∷ 1 ∷ 0 ∷ 0 ∷ 3 ∷ 3 ∷ []) 8
-    ≡ (4 ∷ 5 ∷ [], 0 ∷ 1 ∷ 2 ∷ 3 ∷ 6 ∷ 7 ∷ [])
+abbrev lanesB : List ℕ
+lanesB = 1 ∷ 1 ∷ 2 ∷ 2 ∷ 0 ∷ 0 ∷ 0 ∷ 0 ∷ []
+
+abbrev requestsB : List ℕ
+requestsB = 1 ∷ 0 ∷ 0 ∷ 1 ∷ 0 ∷ 1 ∷ 0 ∷ 1 ∷ []
+
+abbrev numbersB : List ℕ
+numbersB = 2 ∷ 1 ∷ 2 ∷ 1 ∷ 0 ∷ 0 ∷ 3 ∷ 3 ∷ []
+
+case-b : mergeOf lanesB requestsB numbersB 8 ≡ (4 ∷ 5 ∷ [], 0 ∷ 1 ∷ 2 ∷ 3 ∷ 6 ∷ 7 ∷ [])
 unfolding mergeOf bump
 case-b = refl
+
+-- its chain: each line comes before its neighbour in the log, and that one before the next operation of its request
+chain-b : Cycle (ComesBefore (slot lanesB 17) (slot requestsB 64) (value numbersB) (upFrom 0 8))
+chain-b =
+    let line1 : List·Memᴰ 1 (upFrom 0 8) = List·Memᴰ·tail (List·Memᴰ·head refl) in
+    let line2 : List·Memᴰ 2 (upFrom 0 8) = List·Memᴰ·tail (List·Memᴰ·tail (List·Memᴰ·head refl)) in
+    let line3 : List·Memᴰ 3 (upFrom 0 8) = List·Memᴰ·tail (List·Memᴰ·tail (List·Memᴰ·tail (List·Memᴰ·head refl))) in
+    record {
+      item = 0;
+      returns = more (more (more
+          (one (logged 0 (record { front = []; back = []; split = refl })))
+          (next line1 line2 (refl, refl) (λ p. absurd (omega arith))))
+          (logged 1 (record { front = []; back = []; split = refl })))
+          (next line3 (List·Memᴰ·head refl) (refl, refl) (λ p. absurd (omega arith)));
+    }
 
 -- A: response 1 before request 2, and the lines of object 0 exchanged; only request 1 is taken
 case-a : mergeOf (1 ∷ 1 ∷ 2 ∷ 2 ∷ 0 ∷ 0 ∷ 0 ∷ 0 ∷ []) (1 ∷ 0 ∷ 1 ∷ 0 ∷ 0 ∷ 0 ∷ 1 ∷ 1 ∷ []) (2 ∷ 1 ∷ 1 ∷ 2 ∷ 0 ∷ 3 ∷ 0 ∷ 3 ∷ []) 8

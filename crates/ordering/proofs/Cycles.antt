@@ -31,7 +31,7 @@ use Rattle.ordering.proofs.Lists.{
   later-mem,
   neighbours-later,
   First,
-  Second,
+  Preceded,
   first-or,
 }
 use Rattle.ordering.proofs.Lanes.{on-append, on-mem, mem-on, tally-on, tally-lanes}
@@ -94,7 +94,7 @@ module _ {A : Type 0} (lane rid num : A → ℕ) where
         ((q : List A) → onLane lane (lane x) left ≡ x ∷ q → num x ≢ reached rid (λ r. 0) out (rid x)) → Waits (Precedes all) left x
     waits-for x m nr = at (first-or (onLane lane (lane x) left) x (mem-on lane left x m))
       where
-        at : First (onLane lane (lane x) left) x ⊎ Second (onLane lane (lane x) left) x → Waits (Precedes all) left x
+        at : First (onLane lane (lane x) left) x ⊎ Preceded (onLane lane (lane x) left) x → Waits (Precedes all) left x
         at (inr p) =
             let n = p .1 in (
               p .0,

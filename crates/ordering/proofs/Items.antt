@@ -69,25 +69,25 @@ module _ {A B : Type 0} (f : A → B) where
   keep-map x (took y ys) = refl
 
   module _ (lane rid num : B → ℕ) where
-    abbrev Pk : (ℕ → ℕ) → List ℕ → List A → Pick A
-    Pk = pick (λ a. lane (f a)) (λ a. rid (f a)) (λ a. num (f a))
+    abbrev picks : (ℕ → ℕ) → List ℕ → List A → Pick A
+    picks = pick (λ a. lane (f a)) (λ a. rid (f a)) (λ a. num (f a))
 
-    abbrev Mg : ℕ → (ℕ → ℕ) → List A → List A × List A
-    Mg = merge (λ a. lane (f a)) (λ a. rid (f a)) (λ a. num (f a))
+    abbrev merges : ℕ → (ℕ → ℕ) → List A → List A × List A
+    merges = merge (λ a. lane (f a)) (λ a. rid (f a)) (λ a. num (f a))
 
-    pick-map : (stage : ℕ → ℕ) (seen : List ℕ) (xs : List A) → pick lane rid num stage seen (map f xs) ≡ mapPick (Pk stage seen xs)
+    pick-map : (stage : ℕ → ℕ) (seen : List ℕ) (xs : List A) → pick lane rid num stage seen (map f xs) ≡ mapPick (picks stage seen xs)
     pick-map stage seen [] = refl
     pick-map stage seen (x ∷ xs) = byBool (not (among (lane (f x)) seen) && eqb (num (f x)) (stage (rid (f x))))
         (λ t. rw t)
-        (λ t. rw t (ap (keep (f x)) (pick-map stage (lane (f x) ∷ seen) xs) ∙ keep-map x (Pk stage (lane (f x) ∷ seen) xs)))
+        (λ t. rw t (ap (keep (f x)) (pick-map stage (lane (f x) ∷ seen) xs) ∙ keep-map x (picks stage (lane (f x) ∷ seen) xs)))
 
-    merge-map : (n : ℕ) (stage : ℕ → ℕ) (xs : List A) → merge lane rid num n stage (map f xs) ≡ both (Mg n stage xs)
+    merge-map : (n : ℕ) (stage : ℕ → ℕ) (xs : List A) → merge lane rid num n stage (map f xs) ≡ both (merges n stage xs)
     merge-map zero stage xs = refl
-    merge-map (suc n) stage xs = go (Pk stage [] xs) refl (merge-map n)
+    merge-map (suc n) stage xs = go (picks stage [] xs) refl (merge-map n)
       where
-        go : (o : Pick A) → Pk stage [] xs ≡ o →
-            ((s : ℕ → ℕ) (ys : List A) → merge lane rid num n s (map f ys) ≡ both (Mg n s ys)) →
-            merge lane rid num (suc n) stage (map f xs) ≡ both (Mg (suc n) stage xs)
+        go : (o : Pick A) → picks stage [] xs ≡ o →
+            ((s : ℕ → ℕ) (ys : List A) → merge lane rid num n s (map f ys) ≡ both (merges n s ys)) →
+            merge lane rid num (suc n) stage (map f xs) ≡ both (merges (suc n) stage xs)
         go stuck e ih =
             merge-stuck lane rid num (suc n) stage (map f xs) (pick-map stage [] xs ∙ ap mapPick e)
             ∙ ap both (sym (merge-stuck (λ a. lane (f a)) (λ a. rid (f a)) (λ a. num (f a)) (suc n) stage xs e))

@@ -119,17 +119,17 @@ module _ {A : Type 0} where
   abbrev pub First : List A → A → Type 0
   First xs x = (q : List A) × (xs ≡ x ∷ q)
 
-  abbrev pub Second : List A → A → Type 0
-  Second xs x = (y : A) × Neighbours xs y x
+  abbrev pub Preceded : List A → A → Type 0
+  Preceded xs x = (y : A) × Neighbours xs y x
 
-  pub first-or : (xs : List A) (x : A) → List·Memᴰ x xs → First xs x ⊎ Second xs x
+  pub first-or : (xs : List A) (x : A) → List·Memᴰ x xs → First xs x ⊎ Preceded xs x
   first-or [] x m = absurd (List·Memᴰ·not-nil m)
   first-or (z ∷ xs) x m = at (List·Memᴰ·cases-cons m) (first-or xs x)
     where
-      step : First xs x ⊎ Second xs x → Second (z ∷ xs) x
+      step : First xs x ⊎ Preceded xs x → Preceded (z ∷ xs) x
       step (inl f) = (z, record { front = []; back = f .0; split = ap (λ t. z ∷ t) (f .1) })
       step (inr f) = (f .0, record { front = z ∷ f .1 .front; back = f .1 .back; split = ap (λ t. z ∷ t) (f .1 .split) })
 
-      at : (x ≡ z) ⊎ List·Memᴰ x xs → (List·Memᴰ x xs → First xs x ⊎ Second xs x) → First (z ∷ xs) x ⊎ Second (z ∷ xs) x
+      at : (x ≡ z) ⊎ List·Memᴰ x xs → (List·Memᴰ x xs → First xs x ⊎ Preceded xs x) → First (z ∷ xs) x ⊎ Preceded (z ∷ xs) x
       at (inl e) ih = inl (xs, ap (λ t. t ∷ xs) (sym e))
       at (inr k) ih = inr (step (ih k))

@@ -70,20 +70,20 @@ ordered : (done : List ℕ) (x : ℕ) (m v : List ℕ × List ℕ) (o : List ℕ
 ordered done x m v o e h = append-assoc done (x ∷ []) (m .0) ∙ ap (λ t. done ++ t .0) (sym e) ∙ h
 
 module _ (lane request number : List ℕ) (n : ℕ) (o : List ℕ) where
-  abbrev L : ℕ → ℕ
-  L = slot lane 17
+  abbrev laneAt : ℕ → ℕ
+  laneAt = slot lane 17
 
-  abbrev Q : ℕ → ℕ
-  Q = slot request 64
+  abbrev requestAt : ℕ → ℕ
+  requestAt = slot request 64
 
-  abbrev N : ℕ → ℕ
-  N = value number
+  abbrev numberAt : ℕ → ℕ
+  numberAt = value number
 
-  abbrev at : List ℕ → ℕ → ℕ
-  at stage r = getD stage r 0
+  abbrev nextIn : List ℕ → ℕ → ℕ
+  nextIn stage r = getD stage r 0
 
-  abbrev M : ℕ → List ℕ → List ℕ → List ℕ × List ℕ
-  M m stage rest = merge L Q N m (at stage) rest
+  abbrev mergeFrom : ℕ → List ℕ → List ℕ → List ℕ × List ℕ
+  mergeFrom m stage rest = merge laneAt requestAt numberAt m (nextIn stage) rest
 
   pub record Merging (after out head stage : List ℕ) (k : ℕ) : Type 0 where
     pub done : List ℕ
@@ -98,9 +98,9 @@ module _ (lane request number : List ℕ) (n : ℕ) (o : List ℕ) where
     pub so-far : length done ≡ k
     pub whole : k + length rest ≡ n
     pub ascending : Ascending rest
-    pub lanes : (l : ℕ) → l < 17 → Through after n (getD head l 0) (onLane L l rest)
-    pub order : done ++ M (n - k) stage rest .0 ≡ mergeOf lane request number n .0
-    pub left : M (n - k) stage rest .1 ≡ mergeOf lane request number n .1
+    pub lanes : (l : ℕ) → l < 17 → Through after n (getD head l 0) (onLane laneAt l rest)
+    pub order : done ++ mergeFrom (n - k) stage rest .0 ≡ mergeOf lane request number n .0
+    pub left : mergeFrom (n - k) stage rest .1 ≡ mergeOf lane request number n .1
 
   pub merging-start : (after head : List ℕ) → n ≤ length request → n ≤ length number → n ≤ length o → Linked lane n 0 head after →
       Merging after o head (replicate 64 0) 0
@@ -140,7 +140,7 @@ module _ (lane request number : List ℕ) (n : ℕ) (o : List ℕ) where
       (w ∙ ap (λ j. done ++ drop j o) (sym s) ∙ ap (λ t. overFront t o) a, λ i. record { taken = t i; left = b i })
 
   merging-done : (after out head stage : List ℕ) (k m : ℕ) → n ≡ m → (g : Merging after out head stage k) →
-      M (n - k) stage (g .rest) ≡ ([], g .rest) → Written m out k (n - k)
+      mergeFrom (n - k) stage (g .rest) ≡ ([], g .rest) → Written m out k (n - k)
   merging-done after out head stage k m c g e = subst (λ m. Written m out k (n - k)) c (written out (g .done) k (n - k)
       (g .written)
       (g .so-far)
@@ -153,15 +153,16 @@ module _ (lane request number : List ℕ) (n : ℕ) (o : List ℕ) where
       subst (Written m out k) e (merging-done after out head stage k m c g (rw e))
 
   -- ── the heads are what `pick` could take ──
-  headed : (after out head stage : List ℕ) (k : ℕ) (g : Merging after out head stage k) (y : ℕ) → Ready L Q N (at stage) (g .rest) y →
-      (getD head (L y) 0 ≡ y) × (y < n)
+  headed : (after out head stage : List ℕ) (k : ℕ) (g : Merging after out head stage k) (y : ℕ) →
+      Ready laneAt requestAt numberAt (nextIn stage) (g .rest) y →
+      (getD head (laneAt y) 0 ≡ y) × (y < n)
   headed after out head stage k g y r =
-      let c : Through after n (getD head (L y) 0) (y ∷ r .0) =
-      subst (Through after n (getD head (L y) 0)) (r .1) (g .lanes (L y) (omega arith)) in
+      let c : Through after n (getD head (laneAt y) 0) (y ∷ r .0) =
+      subst (Through after n (getD head (laneAt y) 0)) (r .1) (g .lanes (laneAt y) (omega arith)) in
       (c .0, c .1)
 
-  is-next : (stage : List ℕ) (x y : ℕ) → x ≡ y → N y ≡ at stage (Q y) → isNext request number stage x ≡ true
-  is-next stage x y e t = eqb-yes (subst (λ y. N y ≡ at stage (Q y)) (sym e) t)
+  is-next : (stage : List ℕ) (x y : ℕ) → x ≡ y → numberAt y ≡ nextIn stage (requestAt y) → isNext request number stage x ≡ true
+  is-next stage x y e t = eqb-yes (subst (λ y. numberAt y ≡ nextIn stage (requestAt y)) (sym e) t)
 
   -- ── what `least` finds ──
   abbrev Found : List ℕ → List ℕ → Front → Type 0
@@ -175,52 +176,53 @@ module _ (lane request number : List ℕ) (n : ℕ) (o : List ℕ) where
       Found stage head f → 17 ≤ f .lane → Written m out k (n - k)
   merging-stop after out head stage k m f c g e b =
       let h = least-of request number stage head n f (g .requests) (g .numbers) e in
-      merging-done after out head stage k m c g (merge-stuck L Q N (n - k) (at stage) (g .rest)
-      (pick-none L Q N (at stage) (g .rest) (λ y r.
+      merging-done after out head stage k m c g (merge-stuck laneAt requestAt numberAt (n - k) (nextIn stage) (g .rest)
+      (pick-none laneAt requestAt numberAt (nextIn stage) (g .rest) (λ y r.
       let d = headed after out head stage k g y r in
-      omega (arith, d .0, d .1, h .none b (L y) (omega arith) (is-next stage (getD head (L y) 0) y (d .0) (r .2))))))
+      omega (arith, d .0, d .1, h .none b (laneAt y) (omega arith) (is-next stage (getD head (laneAt y) 0) y (d .0) (r .2))))))
 
   -- ── a step ──
   -- the lanes behind it, given that `pick` takes x, the head of lane l
-  lanes-step : (after head rest zs : List ℕ) (l x : ℕ) → length head ≡ 17 → l < 17 → L x ≡ l →
-      ((j : ℕ) → onLane L j (x ∷ zs) ≡ onLane L j rest) →
-      ((j : ℕ) → j < 17 → Through after n (getD head j 0) (onLane L j rest)) →
-      (j : ℕ) → j < 17 → Through after n (getD (set head l (getD after x 0)) j 0) (onLane L j zs)
+  lanes-step : (after head rest zs : List ℕ) (l x : ℕ) → length head ≡ 17 → l < 17 → laneAt x ≡ l →
+      ((j : ℕ) → onLane laneAt j (x ∷ zs) ≡ onLane laneAt j rest) →
+      ((j : ℕ) → j < 17 → Through after n (getD head j 0) (onLane laneAt j rest)) →
+      (j : ℕ) → j < 17 → Through after n (getD (set head l (getD after x 0)) j 0) (onLane laneAt j zs)
   lanes-step after head rest zs l x hl b lx p g j a = byEq l j
-      (λ q d. subst (λ j. Through after n (getD (set head l (getD after x 0)) j 0) (onLane L j zs)) q
+      (λ q d. subst (λ j. Through after n (getD (set head l (getD after x 0)) j 0) (onLane laneAt j zs)) q
       (rw (getD-set-same head l (getD after x 0) 0 (omega arith))
-      (subst (Through after n (getD head l 0)) {y = x ∷ onLane L l zs} (sym (p l) ∙ rw (eqb-yes lx)) (g l b) .2)))
+      (subst (Through after n (getD head l 0)) {y = x ∷ onLane laneAt l zs} (sym (p l) ∙ rw (eqb-yes lx)) (g l b) .2)))
       (λ q d.
-      let i : eqb (L x) j ≡ false = eqb-no {a = L x} {b = j} (λ r. q (sym lx ∙ r)) in
+      let i : eqb (laneAt x) j ≡ false = eqb-no {a = laneAt x} {b = j} (λ r. q (sym lx ∙ r)) in
       rw (getD-set-other head l j (getD after x 0) 0 (λ r. q (sym r)))
-      (subst (Through after n (getD head j 0)) {y = onLane L j zs} (sym (p j) ∙ rw i) (g j a)))
+      (subst (Through after n (getD head j 0)) {y = onLane laneAt j zs} (sym (p j) ∙ rw i) (g j a)))
 
-  stepped : (after out head stage : List ℕ) (k l x : ℕ) (zs : List ℕ) → k < n → l < 17 → L x ≡ l → (g : Merging after out head stage k) →
-      pick L Q N (at stage) [] (g .rest) ≡ took x zs →
-      Merging after (set out k x) (set head l (getD after x 0)) (set stage (Q x) (getD stage (Q x) 0 + 1)) (k + 1)
+  stepped : (after out head stage : List ℕ) (k l x : ℕ) (zs : List ℕ) → k < n → l < 17 → laneAt x ≡ l →
+      (g : Merging after out head stage k) → pick laneAt requestAt numberAt (nextIn stage) [] (g .rest) ≡ took x zs →
+      Merging after (set out k x) (set head l (getD after x 0)) (set stage (requestAt x) (getD stage (requestAt x) 0 + 1)) (k + 1)
   stepped after out head stage k l x zs s b lx g e =
-      let p : Picked L Q N (at stage) [] (g .rest) x zs = picked L Q N (at stage) [] (g .rest) x zs e in
-      let in-stage : Q x < length stage = omega (arith, g .stages) in
+      let p : Picked laneAt requestAt numberAt (nextIn stage) [] (g .rest) x zs =
+      picked laneAt requestAt numberAt (nextIn stage) [] (g .rest) x zs e in
+      let in-stage : requestAt x < length stage = omega (arith, g .stages) in
       let m : n - k ≡ suc (n - (k + 1)) = omega arith in
-      let next : List ℕ × List ℕ = M (n - (k + 1)) (set stage (Q x) (getD stage (Q x) 0 + 1)) zs in
-      let v : M (n - k) stage (g .rest) ≡ (x ∷ next .0, next .1) =
-      ap (λ j. M j stage (g .rest)) m ∙ merge-took L Q N (n - (k + 1)) (at stage) (g .rest) x zs e
-      ∙ ap (λ f. (x ∷ merge L Q N (n - (k + 1)) f zs .0, merge L Q N (n - (k + 1)) f zs .1)) (bumped stage (Q x) in-stage) in
+      let next : List ℕ × List ℕ = mergeFrom (n - (k + 1)) (set stage (requestAt x) (getD stage (requestAt x) 0 + 1)) zs in
+      let v : mergeFrom (n - k) stage (g .rest) ≡ (x ∷ next .0, next .1) =
+      ap (λ j. mergeFrom j stage (g .rest)) m ∙ merge-took laneAt requestAt numberAt (n - (k + 1)) (nextIn stage) (g .rest) x zs e
+      ∙ ap (λ f. let m = merge laneAt requestAt numberAt (n - (k + 1)) f zs in (x ∷ m .0, m .1)) (bumped stage (requestAt x) in-stage) in
       record {
         done = g .done ++ (x ∷ []);
         rest = zs;
         heads = length-set head l (getD after x 0) ∙ g .heads;
-        stages = length-set stage (Q x) (getD stage (Q x) 0 + 1) ∙ g .stages;
+        stages = length-set stage (requestAt x) (getD stage (requestAt x) 0 + 1) ∙ g .stages;
         requests = g .requests;
         numbers = g .numbers;
         room = g .room;
-        small = still-small stage (Q x) in-stage k (g .small);
+        small = still-small stage (requestAt x) in-stage k (g .small);
         written = write o (g .done) out k x (omega (arith, g .room)) (g .so-far) (g .written);
         so-far = omega (arith, length-append (g .done) (x ∷ []), g .so-far);
         whole = omega (arith, p .shorter, g .whole);
-        ascending = still-ascending L Q N (at stage) [] (g .rest) x zs (g .ascending) e;
+        ascending = still-ascending laneAt requestAt numberAt (nextIn stage) [] (g .rest) x zs (g .ascending) e;
         lanes = lanes-step after head (g .rest) zs l x (g .heads) b lx (p .lanes) (g .lanes);
-        order = ordered (g .done) x next (M (n - k) stage (g .rest)) (mergeOf lane request number n .0) v (g .order);
+        order = ordered (g .done) x next (mergeFrom (n - k) stage (g .rest)) (mergeOf lane request number n .0) v (g .order);
         left = ap (λ t. t .1) (sym v) ∙ g .left;
       }
 
@@ -233,14 +235,14 @@ module _ (lane request number : List ℕ) (n : ℕ) (o : List ℕ) where
       let x = f .item in
       let l = f .lane in
       let h = merging-leads after out head stage k f g e b in
-      let q = starts after n x (onLane L l (g .rest)) (h .item)
-      (subst (λ h. Through after n h (onLane L l (g .rest))) (sym (h .first)) (g .lanes l b)) in
-      let lx : L x ≡ l = head-lane L l (g .rest) x (q .0) (q .1) in
-      let r : Ready L Q N (at stage) (g .rest) x =
-      (q .0, subst (λ l. onLane L l (g .rest) ≡ x ∷ q .0) (sym lx) (q .1), yes-eqb (h .ready)) in
-      let p = pick-least L Q N (at stage) (g .rest) x (g .ascending) r (λ y r.
+      let q = starts after n x (onLane laneAt l (g .rest)) (h .item)
+      (subst (λ h. Through after n h (onLane laneAt l (g .rest))) (sym (h .first)) (g .lanes l b)) in
+      let lx : laneAt x ≡ l = head-lane laneAt l (g .rest) x (q .0) (q .1) in
+      let r : Ready laneAt requestAt numberAt (nextIn stage) (g .rest) x =
+      (q .0, subst (λ l. onLane laneAt l (g .rest) ≡ x ∷ q .0) (sym lx) (q .1), yes-eqb (h .ready)) in
+      let p = pick-least laneAt requestAt numberAt (nextIn stage) (g .rest) x (g .ascending) r (λ y r.
       let d = headed after out head stage k g y r in
-      omega (arith, d .0, h .least (L y) (omega arith) (is-next stage (getD head (L y) 0) y (d .0) (r .2)))) in
+      omega (arith, d .0, h .least (laneAt y) (omega arith) (is-next stage (getD head (laneAt y) 0) y (d .0) (r .2)))) in
       subst (λ r. Merging after (set out k x) (set head l (getD after x 0)) (set stage r (getD stage r 0 + 1)) (k + 1))
       (ap (λ w. w % 64) (sym d))
       (stepped after out head stage k l x (p .0) s b lx g (p .1))

@@ -23,15 +23,12 @@ head-lane lane l (y ∷ ys) x q e = byEq (lane y) l
     (λ p d. head-lane lane l ys x q (rw d at e))
 
 module _ (lane rid num : ℕ → ℕ) where
-  abbrev On : ℕ → List ℕ → List ℕ
-  On = onLane lane
-
-  abbrev Pk : (ℕ → ℕ) → List ℕ → List ℕ → Pick ℕ
-  Pk = pick lane rid num
+  abbrev picks : (ℕ → ℕ) → List ℕ → List ℕ → Pick ℕ
+  picks = pick lane rid num
 
   -- what `pick` takes is not behind any item that it could take
-  first : (stage : ℕ → ℕ) (seen rest : List ℕ) (z : ℕ) (zs : List ℕ) → Ascending rest → Pk stage seen rest ≡ took z zs →
-      (x : ℕ) (q : List ℕ) → among (lane x) seen ≡ false → On (lane x) rest ≡ x ∷ q → num x ≡ stage (rid x) → z ≤ x
+  first : (stage : ℕ → ℕ) (seen rest : List ℕ) (z : ℕ) (zs : List ℕ) → Ascending rest → picks stage seen rest ≡ took z zs →
+      (x : ℕ) (q : List ℕ) → among (lane x) seen ≡ false → onLane lane (lane x) rest ≡ x ∷ q → num x ≡ stage (rid x) → z ≤ x
   first stage seen [] z zs a e x q f o n = clash (cc)
   first stage seen (y ∷ ys) z zs a e x q f o n = byEq (lane y) (lane x)
       (λ p d.
@@ -46,7 +43,7 @@ module _ (lane rid num : ℕ → ℕ) where
       let j : y ≡ z = cc in
       let h : All (λ k. y < k) (x ∷ q) = subst (All (λ k. y < k)) (rw d at o) (all-on lane (λ k. y < k) (lane x) ys (a .0)) in
       omega (arith, h .0))
-      (λ t. go (Pk stage (lane y ∷ seen) ys)
+      (λ t. go (picks stage (lane y ∷ seen) ys)
       (λ w ws g. first stage (lane y ∷ seen) ys w ws (a .1) g x q (rw d f) (rw d at o) n) (rw t at e)))
     where
       go : (u : Pick ℕ) → ((w : ℕ) (ws : List ℕ) → u ≡ took w ws → w ≤ x) → keep y u ≡ took z zs → z ≤ x
@@ -58,7 +55,7 @@ module _ (lane rid num : ℕ → ℕ) where
   still-ascending stage seen [] z zs a e = clash (cc)
   still-ascending stage seen (y ∷ ys) z zs a e = byBool (not (among (lane y) seen) && eqb (num y) (stage (rid y)))
       (λ t. let e′ : took y ys ≡ took z zs = rw t at e in let i : ys ≡ zs = cc in subst Ascending i (a .1))
-      (λ t. go (Pk stage (lane y ∷ seen) ys)
+      (λ t. go (picks stage (lane y ∷ seen) ys)
       (still-ascending stage (lane y ∷ seen) ys) (picked lane rid num stage (lane y ∷ seen) ys) (rw t at e))
     where
       go : (u : Pick ℕ) → ((w : ℕ) (ws : List ℕ) → Ascending ys → u ≡ took w ws → Ascending ws) →
@@ -73,15 +70,15 @@ module _ (lane rid num : ℕ → ℕ) where
   abbrev pub Ready : (ℕ → ℕ) → List ℕ → ℕ → Type 0
   Ready stage rest y = (q : List ℕ) × (onLane lane (lane y) rest ≡ y ∷ q) × (num y ≡ stage (rid y))
 
-  taken-ready : (stage : ℕ → ℕ) (rest : List ℕ) (z : ℕ) (zs : List ℕ) → Pk stage [] rest ≡ took z zs → Ready stage rest z
+  taken-ready : (stage : ℕ → ℕ) (rest : List ℕ) (z : ℕ) (zs : List ℕ) → picks stage [] rest ≡ took z zs → Ready stage rest z
   taken-ready stage rest z zs e =
-      let p = picked lane rid num stage [] rest z zs e in (On (lane z) zs, sym (p .lanes (lane z)) ∙ on-head lane z zs, p .next)
+      let p = picked lane rid num stage [] rest z zs e in (onLane lane (lane z) zs, sym (p .lanes (lane z)) ∙ on-head lane z zs, p .next)
 
   pub pick-least : (stage : ℕ → ℕ) (rest : List ℕ) (x : ℕ) → Ascending rest → Ready stage rest x →
       ((y : ℕ) → Ready stage rest y → x ≤ y) → (zs : List ℕ) × (pick lane rid num stage [] rest ≡ took x zs)
-  pick-least stage rest x a r m = go (Pk stage [] rest) refl
+  pick-least stage rest x a r m = go (picks stage [] rest) refl
     where
-      go : (u : Pick ℕ) → Pk stage [] rest ≡ u → (zs : List ℕ) × (Pk stage [] rest ≡ took x zs)
+      go : (u : Pick ℕ) → picks stage [] rest ≡ u → (zs : List ℕ) × (picks stage [] rest ≡ took x zs)
       go stuck e = absurd (not-stuck lane rid num stage [] rest x (r .0) refl (r .1) (r .2) e)
       go (took z zs) e =
           let i : z ≡ x = omega (
@@ -92,8 +89,8 @@ module _ (lane rid num : ℕ → ℕ) where
           (zs, e ∙ ap (λ t. took t zs) i)
 
   pub pick-none : (stage : ℕ → ℕ) (rest : List ℕ) → ((y : ℕ) → Ready stage rest y → ⊥) → pick lane rid num stage [] rest ≡ stuck
-  pick-none stage rest m = go (Pk stage [] rest) refl
+  pick-none stage rest m = go (picks stage [] rest) refl
     where
-      go : (u : Pick ℕ) → Pk stage [] rest ≡ u → Pk stage [] rest ≡ stuck
+      go : (u : Pick ℕ) → picks stage [] rest ≡ u → picks stage [] rest ≡ stuck
       go stuck e = e
       go (took z zs) e = absurd (m z (taken-ready stage rest z zs e))

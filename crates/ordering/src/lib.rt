@@ -1,12 +1,12 @@
 // The merge of items that stand in two queues each, a lane (0 the trace, 1 + o the log of object o) and a request: an item is taken when it
-// is the first of its lane and next in its request, the smallest position first. With the log lines in report order before the trace events,
-// a position is a report line or an event.
+// is the first of its lane and next in its request, the smallest position first. Log lines stand in report order before the trace events.
 ghost use mathlib.Core.Path.{_≡_};
 ghost use Prim.Native.Nat.{min};
 ghost use lib.ListN.{length};
 ghost use Rattle.ordering.specs.Positions.{orderIn, countsOf};
 ghost use Rattle.ordering.specs.Heads.{linkOf, leastOf};
 
+// A byte and a position as an index.
 fn wide(x: u8) -> usize
     ensures { λ r. ⌜ r ≡ x ⌝ }
 {
@@ -52,6 +52,7 @@ struct Front {
 }
 
 // The smallest head of those that are next in their request; lane 17 if none is.
+// Each way through the body counts on by itself, so that each has its own proof.
 fn least(request: &[u8], number: &[u16], stage: &[u16; 64], head: &[u16; 17], n: usize) -> Front
     ensures { λ r. ⌜ r ≡ leastOf (now (request .entry)) (now (number .entry)) (now (stage .entry)) (now (head .entry)) n ⌝ }
 {
