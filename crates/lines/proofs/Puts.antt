@@ -7,7 +7,8 @@ use native.Mathlib.Numerals.{add-one}
 use lib.ListN.{length, set, length-append}
 use lib.Seq.{drop-cons, set-at}
 use borrow.Author.Tests.{lt-ltb, le-ltb}
-use Rattle.lines.specs.Put.{front, putOf, leftOf, PutIs}
+use Rattle.lines.specs.Put.{writtenOf, front, putOf, leftOf, PutIs}
+use Rattle.lines.specs.declared.writer.Put.{Put}
 use Rattle.lines.specs.declared.writer.Put.the-variants.{Wrote, Short}
 
 pub put-short : (t o : List ℕ) → length o < length t → PutIs t o o Short
@@ -17,6 +18,14 @@ put-short t o h = record { answer = simp (lt-ltb _ _ h, putOf); bytes = simp (lt
 pub put-fits : (t o p : List ℕ) (n : ℕ) → length t ≤ length o → n ≡ length t → p ≡ front t o → PutIs t o p (Wrote n)
 unfolding putOf leftOf
 put-fits t o p n h e q = record { answer = simp (le-ltb _ _ h, putOf) (ap Wrote e); bytes = simp (le-ltb _ _ h, leftOf) q }
+
+-- a text that fits is in front
+pub put-done : (t o p : List ℕ) (r : Put) → length t ≤ length o → PutIs t o p r → (writtenOf r ≡ length t) × (p ≡ front t o)
+unfolding putOf leftOf
+put-done t o p r h i =
+    let e : putOf t o ≡ Wrote (length t) = simp (le-ltb _ _ h, putOf) in
+    let f : leftOf t o ≡ front t o = simp (le-ltb _ _ h, leftOf) in
+    (ap writtenOf (i .answer ∙ e), i .bytes ∙ f)
 
 -- one byte more
 pub front-one : (b : ℕ) (o : List ℕ) → 0 < length o → set o 0 b ≡ front (b ∷ []) o

@@ -8,6 +8,10 @@ use lib.Dec.{ltb}
 use Rattle.lines.specs.declared.writer.Put.{Put}
 use Rattle.lines.specs.declared.writer.Put.the-variants.{Wrote, Short}
 
+abbrev pub writtenOf : Put → ℕ
+writtenOf (Wrote n) = n
+writtenOf Short = 0
+
 -- the text t in front, and behind it what the buffer o held there
 unfoldable pub front : List ℕ → List ℕ → List ℕ
 front t o = t ++ drop (length t) o

@@ -10,3 +10,4 @@ pub use writer::Put;
 pub use writer::numbers_width;
 pub use writer::put_line;
 pub use writer::put_number;
+pub use writer::written;

@@ -4,12 +4,22 @@ ghost use Prim.Native.Nat.{_≤_};
 ghost use lib.ListN.{length, take};
 ghost use Rattle.lines.specs.Decimal.{decimal};
 ghost use Rattle.lines.specs.LineText.{separatorOf, numbersText, lineText};
-ghost use Rattle.lines.specs.Put.{front, PutIs};
+ghost use Rattle.lines.specs.Put.{writtenOf, front, PutIs};
 
 // What a writer answers: how many bytes it wrote; or the text did not fit.
 pub enum Put {
     Wrote(usize),
     Short,
+}
+
+// How many bytes were written.
+pub fn written(p: Put) -> usize
+    ensures { λ r. ⌜ r ≡ writtenOf p ⌝ }
+{
+    let Put::Wrote(n) = p else {
+        return 0;
+    };
+    n
 }
 
 // How many bytes v takes in decimal.

@@ -5,3 +5,5 @@ pub mod TraceReading
 pub mod ReportReading
 pub mod ScheduleReading
 pub mod ProgramsReading
+pub mod Texts
+pub mod TraceWriting

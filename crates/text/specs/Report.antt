@@ -4,7 +4,7 @@ use mathlib.Core.List.{List, [], _∷_, _++_}
 use mathlib.Core.Option.{Option, none}
 use lib.ListN.{length, getD}
 use Rattle.lines.specs.LineText.{lineText}
-use Rattle.text.specs.Text.{Read, Kind, within, readText}
+use Rattle.text.specs.Text.{Read, Kind, within, linesText, readText}
 use Rattle.text.specs.Formats.{ofLine, logLine}
 use Rattle.text.specs.declared.report.Of.{Of}
 use Rattle.text.specs.declared.report.Entry.{Entry}
@@ -50,13 +50,5 @@ unfoldable pub entryText : Entry → List ℕ
 entryText l =
     lineText (logLine .word) (l .op .object ∷ l .rid ∷ l .num ∷ l .op .kind ∷ l .op .key ∷ l .op .value ∷ [])
 
-unfoldable pub ofsText : List Of → List ℕ
-ofsText [] = []
-ofsText (o ∷ os) = ofText o ++ ofsText os
-
-unfoldable pub logText : List Entry → List ℕ
-logText [] = []
-logText (l ∷ ls) = entryText l ++ logText ls
-
 unfoldable pub reportText : Report → List ℕ
-reportText r = ofsText (r .ofs) ++ logText (r .log)
+reportText r = linesText ofText (r .ofs) ++ linesText entryText (r .log)

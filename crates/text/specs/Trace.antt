@@ -5,7 +5,7 @@ use mathlib.Core.Option.{Option}
 use mathlib.Core.Bool.{Bool, true, false, not}
 use lib.ListN.{getD}
 use Rattle.lines.specs.LineText.{lineText}
-use Rattle.text.specs.Text.{Read, Kind, within, count, readText}
+use Rattle.text.specs.Text.{Read, Kind, within, count, linesText, readText}
 use Rattle.text.specs.Formats.{requestLine, responseLine}
 use Rattle.text.specs.declared.trace.Event.{Event}
 use Rattle.text.specs.declared.trace.Event.the-variants.{Request, Response}
@@ -42,5 +42,4 @@ eventText (Request rid prog a b) = lineText (requestLine .word) (rid ∷ prog �
 eventText (Response rid status value) = lineText (responseLine .word) (rid ∷ status ∷ value ∷ [])
 
 unfoldable pub traceText : List Event → List ℕ
-traceText [] = []
-traceText (e ∷ es) = eventText e ++ traceText es
+traceText es = linesText eventText es

@@ -4,6 +4,7 @@ mod programs;
 mod report;
 mod schedule;
 mod trace;
+mod trace_writer;
 
 pub use kinds::Lines;
 pub use programs::Instr;
@@ -23,3 +24,5 @@ pub use schedule::read_schedule;
 pub use trace::Event;
 pub use trace::event_at;
 pub use trace::read_trace;
+pub use trace_writer::put_trace;
+pub use trace_writer::trace_width;
