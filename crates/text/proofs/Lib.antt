@@ -7,3 +7,4 @@ pub mod ScheduleReading
 pub mod ProgramsReading
 pub mod Texts
 pub mod TraceWriting
+pub mod ReportWriting

@@ -48,6 +48,36 @@ module _ (f : ℕ → List ℕ) where
       ap (λ t. f i ++ t) (texts-more (suc i) k ∙ ap (λ j. textsFrom f (suc i) k ++ f j) e)
       ∙ sym (append-assoc (f i) (textsFrom f (suc i) k) (f (i + suc k)))
 
+-- k texts, and then n more
+pub texts-add : (f : ℕ → List ℕ) (k i n : ℕ) → textsFrom f i (k + n) ≡ textsFrom f i k ++ textsFrom f (i + k) n
+unfolding textsFrom
+texts-add f zero i n =
+    let p : 0 + n ≡ n = omega arith in
+    let q : i + 0 ≡ i = omega arith in
+    rw (p, q) refl
+texts-add f (suc k) i n =
+    let p : suc k + n ≡ suc (k + n) = omega arith in
+    let q : suc i + k ≡ i + suc k = omega arith in
+    ap (textsFrom f i) p
+    ∙ ap (λ t. f i ++ t) (texts-add f k (suc i) n ∙ ap (λ j. textsFrom f (suc i) k ++ textsFrom f j n) q)
+    ∙ sym (append-assoc (f i) (textsFrom f (suc i) k) (textsFrom f (i + suc k) n))
+
+-- equal texts
+pub texts-same : (f g : ℕ → List ℕ) (k i j : ℕ) → ((d : ℕ) → d < k → f (i + d) ≡ g (j + d)) →
+    textsFrom f i k ≡ textsFrom g j k
+unfolding textsFrom
+texts-same f g zero i j h = refl
+texts-same f g (suc k) i j h =
+    let a : i + 0 ≡ i = omega arith in
+    let b : j + 0 ≡ j = omega arith in
+    let e : f i ≡ g j = ap f (sym a) ∙ h 0 (omega arith) ∙ ap g b in
+    let s = texts-same f g k (suc i) (suc j)
+    (λ (d : ℕ). λ (l : d < k).
+    let p : suc i + d ≡ i + suc d = omega arith in
+    let q : j + suc d ≡ suc j + d = omega arith in
+    ap f p ∙ h (suc d) (omega (arith, l)) ∙ ap g q) in
+    λ x. e x ++ s x
+
 lines-more : {A : Type 0} (g : A → List ℕ) (xs : List A) (x : A) → linesText g (xs ++ x ∷ []) ≡ linesText g xs ++ g x
 unfolding linesText
 lines-more g [] x = append-nil (g x)

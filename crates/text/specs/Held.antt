@@ -53,8 +53,12 @@ ofAt ofs i = ofFrom (row 3 ofs (i % 64))
 unfoldable pub entryAt : List ℕ → ℕ → Entry
 entryAt logs i = entryFrom (row 6 logs (i % 1024))
 
+-- a report of m `of` and n `log` lines
+abbrev pub reportOf : List ℕ → ℕ → List ℕ → ℕ → Report
+reportOf ofs m logs n = record { ofs = firsts (ofAt ofs) m; log = firsts (entryAt logs) n }
+
 unfoldable pub reportIn : List ℕ → List ℕ → ReportLines → Read Report
-reportIn ofs logs (Counts m n) = readable (record { ofs = firsts (ofAt ofs) m; log = firsts (entryAt logs) n })
+reportIn ofs logs (Counts m n) = readable (reportOf ofs m logs n)
 reportIn ofs logs (BadLine line) = unreadable line
 
 abbrev pub ofsIn : ReportLines → ℕ

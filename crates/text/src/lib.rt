@@ -2,6 +2,7 @@
 mod kinds;
 mod programs;
 mod report;
+mod report_writer;
 mod schedule;
 mod trace;
 mod trace_writer;
@@ -18,6 +19,8 @@ pub use report::ReportLines;
 pub use report::entry_at;
 pub use report::of_at;
 pub use report::read_report;
+pub use report_writer::put_report;
+pub use report_writer::report_width;
 pub use schedule::Move;
 pub use schedule::move_at;
 pub use schedule::read_schedule;
