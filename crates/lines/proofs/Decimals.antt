@@ -58,3 +58,18 @@ decimal-length (suc k) v h = go (ltb v 10) refl (decimal-length k (v / 10))
 -- a number of 64 bits has at most 20 digits
 pub decimal-20 : (v : ℕ) → v < 2 ^ 64 → length (decimal v) ≤ 20
 decimal-20 v h = decimal-length 19 v (omega arith)
+
+-- a larger number takes as many bytes or more
+pub decimal-mono : (k v h : ℕ) → h ≤ k → v ≤ h → length (decimal v) ≤ length (decimal h)
+decimal-mono zero v h b l = omega (arith, decimal-one v (omega arith), decimal-one h (omega arith))
+decimal-mono (suc k) v h b l = go (ltb v 10) (ltb h 10) refl refl (decimal-mono k (v / 10) (h / 10))
+  where
+    go : (x y : Bool) → ltb v 10 ≡ x → ltb h 10 ≡ y →
+        (h / 10 ≤ k → v / 10 ≤ h / 10 → length (decimal (v / 10)) ≤ length (decimal (h / 10))) →
+        length (decimal v) ≤ length (decimal h)
+    go true true e f ih = omega (arith, decimal-one v (ltb-true v 10 e), decimal-one h (ltb-true h 10 f))
+    go true false e f ih = omega (arith, decimal-one v (ltb-true v 10 e), decimal-more h (ltb-false h 10 f))
+    go false true e f ih = absurd (omega (arith, ltb-false v 10 e, ltb-true h 10 f))
+    go false false e f ih =
+        let m = ltb-false h 10 f in
+        omega (arith, decimal-more v (ltb-false v 10 e), decimal-more h m, ih (omega (arith, m)) (omega arith))

@@ -75,12 +75,12 @@ told-is-neither nothing (found ws d) h = clash (cc)
 told-is-neither nothing nothing h = (refl, refl)
 
 module _ {S : Type 0} (k₁ k₂ : Kind S) (x : S) (p : List ℕ) where
-  adds-first : (vs : List ℕ) → lineOf (k₁ .format) p ≡ some vs → addLine (k₁ ∷ k₂ ∷ []) x p ≡ k₁ .add x vs
+  pub adds-first : (vs : List ℕ) → lineOf (k₁ .format) p ≡ some vs → addLine (k₁ ∷ k₂ ∷ []) x p ≡ k₁ .add x vs
   unfolding addLine
   adds-first vs e = rw (e, addLine) refl
 
   module _ (e : lineOf (k₁ .format) p ≡ none) where
-    adds-second : (vs : List ℕ) → lineOf (k₂ .format) p ≡ some vs → addLine (k₁ ∷ k₂ ∷ []) x p ≡ k₂ .add x vs
+    pub adds-second : (vs : List ℕ) → lineOf (k₂ .format) p ≡ some vs → addLine (k₁ ∷ k₂ ∷ []) x p ≡ k₂ .add x vs
     unfolding addLine
     adds-second vs f = rw (e, addLine) (rw (f, addLine) refl)
 

@@ -8,3 +8,5 @@ pub mod ProgramsReading
 pub mod Texts
 pub mod TraceWriting
 pub mod ReportWriting
+pub mod RoundTrip
+pub mod Cases

@@ -3,6 +3,7 @@ use Prim.Native.Nat.{ℕ}
 use mathlib.Core.List.{List, [], _∷_, _++_}
 use mathlib.Core.Option.{Option, none}
 use lib.ListN.{length, getD}
+use Rattle.lines.specs.Line.{InRanges}
 use Rattle.lines.specs.LineText.{lineText}
 use Rattle.text.specs.Text.{Read, Kind, within, linesText, readText}
 use Rattle.text.specs.Formats.{ofLine, logLine}
@@ -42,13 +43,26 @@ reportKinds = record { format = ofLine; add = addOf } ∷ record { format = logL
 unfoldable pub readReport : List ℕ → Read Report
 readReport s = readText reportKinds (record { ofs = []; log = [] }) s
 
+-- the numbers of a line
+abbrev pub ofNumbers : Of → List ℕ
+ofNumbers o = o .rid ∷ o .group ∷ o .count ∷ []
+
+abbrev pub entryNumbers : Entry → List ℕ
+entryNumbers l = l .op .object ∷ l .rid ∷ l .num ∷ l .op .kind ∷ l .op .key ∷ l .op .value ∷ []
+
+-- each field in its range
+abbrev pub OfIn : Of → Type 0
+OfIn o = InRanges (ofLine .ranges) (ofNumbers o)
+
+abbrev pub EntryIn : Entry → Type 0
+EntryIn l = InRanges (logLine .ranges) (entryNumbers l)
+
 -- the report as bytes
 unfoldable pub ofText : Of → List ℕ
-ofText o = lineText (ofLine .word) (o .rid ∷ o .group ∷ o .count ∷ [])
+ofText o = lineText (ofLine .word) (ofNumbers o)
 
 unfoldable pub entryText : Entry → List ℕ
-entryText l =
-    lineText (logLine .word) (l .op .object ∷ l .rid ∷ l .num ∷ l .op .kind ∷ l .op .key ∷ l .op .value ∷ [])
+entryText l = lineText (logLine .word) (entryNumbers l)
 
 unfoldable pub reportText : Report → List ℕ
 reportText r = linesText ofText (r .ofs) ++ linesText entryText (r .log)

@@ -27,6 +27,11 @@ unfoldable pub count : {A : Type 0} → (A → Bool) → List A → ℕ
 count f [] = 0
 count f (x ∷ xs) = elim (f x) [ true ↦ suc (count f xs) | false ↦ count f xs ]
 
+-- all pass
+abbrev pub All : {A : Type 0} → (A → Type 0) → List A → Type 0
+All P [] = Unit {0}
+All P (x ∷ xs) = P x × All P xs
+
 -- lines as bytes, one behind the other
 unfoldable pub linesText : {A : Type 0} → (A → List ℕ) → List A → List ℕ
 linesText f [] = []

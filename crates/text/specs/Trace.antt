@@ -4,6 +4,7 @@ use mathlib.Core.List.{List, [], _∷_, _++_}
 use mathlib.Core.Option.{Option}
 use mathlib.Core.Bool.{Bool, true, false, not}
 use lib.ListN.{getD}
+use Rattle.lines.specs.Line.{Format, InRanges}
 use Rattle.lines.specs.LineText.{lineText}
 use Rattle.text.specs.Text.{Read, Kind, within, count, linesText, readText}
 use Rattle.text.specs.Formats.{requestLine, responseLine}
@@ -36,10 +37,22 @@ traceKinds = record { format = requestLine; add = addRequest } ∷ record { form
 unfoldable pub readTrace : List ℕ → Read (List Event)
 readTrace s = readText traceKinds [] s
 
+-- the format and the numbers of an event's line
+abbrev pub eventFormat : Event → Format
+eventFormat (Request rid prog a b) = requestLine
+eventFormat (Response rid status value) = responseLine
+
+abbrev pub eventNumbers : Event → List ℕ
+eventNumbers (Request rid prog a b) = rid ∷ prog ∷ a ∷ b ∷ []
+eventNumbers (Response rid status value) = rid ∷ status ∷ value ∷ []
+
+-- each field in its range
+abbrev pub EventIn : Event → Type 0
+EventIn e = InRanges (eventFormat e .ranges) (eventNumbers e)
+
 -- the trace as bytes
 unfoldable pub eventText : Event → List ℕ
-eventText (Request rid prog a b) = lineText (requestLine .word) (rid ∷ prog ∷ a ∷ b ∷ [])
-eventText (Response rid status value) = lineText (responseLine .word) (rid ∷ status ∷ value ∷ [])
+eventText e = lineText (eventFormat e .word) (eventNumbers e)
 
 unfoldable pub traceText : List Event → List ℕ
 traceText es = linesText eventText es
