@@ -5,8 +5,5 @@ pub mod TraceReading
 pub mod ReportReading
 pub mod ScheduleReading
 pub mod ProgramsReading
-pub mod Texts
-pub mod TraceWriting
-pub mod ReportWriting
 pub mod RoundTrip
 pub mod Cases

@@ -1,11 +1,9 @@
-// The four texts: programs, trace, report and schedule, read whole; trace and report written.
+// The four texts: programs, trace, report and schedule, read whole.
 mod kinds;
 mod programs;
 mod report;
-mod report_writer;
 mod schedule;
 mod trace;
-mod trace_writer;
 
 pub use kinds::Lines;
 pub use programs::Instr;
@@ -19,13 +17,9 @@ pub use report::ReportLines;
 pub use report::entry_at;
 pub use report::of_at;
 pub use report::read_report;
-pub use report_writer::put_report;
-pub use report_writer::report_width;
 pub use schedule::Move;
 pub use schedule::move_at;
 pub use schedule::read_schedule;
 pub use trace::Event;
 pub use trace::event_at;
 pub use trace::read_trace;
-pub use trace_writer::put_trace;
-pub use trace_writer::trace_width;
