@@ -1,0 +1,19 @@
+// The machine: the program rules, one instruction, a request from operation to operation, and the objects.
+pub mod codes;
+mod instructions;
+mod processes;
+mod rules;
+
+pub use instructions::Act;
+pub use instructions::carry_out;
+pub use processes::LIMIT;
+pub use processes::Next;
+pub use processes::Stop;
+pub use processes::advance;
+pub use processes::first_locals;
+pub use processes::mark;
+pub use processes::resume;
+pub use rules::Field;
+pub use rules::Fields;
+pub use rules::Ruling;
+pub use rules::check_rules;
