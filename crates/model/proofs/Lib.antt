@@ -1,0 +1,12 @@
+mod Scans
+mod Trace
+mod Claims
+mod Nodes
+mod Requests
+mod Items
+mod Precedes
+mod Equal
+mod Passes
+mod Ahead
+mod Simulation
+mod Sound

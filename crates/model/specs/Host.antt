@@ -1,0 +1,140 @@
+-- The reference host on parsed schedules: rows 14 and 15, and the batch that it writes.
+use mathlib.Core.Bool.{Bool, true, false, cond}
+use mathlib.Core.List.{List, [], _∷_, _++_}
+use mathlib.Core.Option.{Option, none, some}
+use Prim.Native.Nat.{ℕ, zero, suc}
+use lib.Dec.{ltb}
+use Rattle.text.specs.declared.report.Entry.{Entry}
+use Rattle.text.specs.declared.report.Of.{Of}
+use Rattle.text.specs.declared.schedule.Move.the-variants.{Arrive, Turn}
+use Rattle.text.specs.declared.schedule.Move.{Move}
+use Rattle.text.specs.declared.trace.Event.the-variants.{Request, Response}
+use Rattle.text.specs.declared.trace.Event.{Event}
+use Rattle.model.specs.Batch.{Batch}
+use Rattle.model.specs.Checks.{firstBad}
+use Rattle.model.specs.Machine.{Next, op, stop, Machine}
+use Rattle.model.specs.PlainRun.{State, Phase, absent, opened, closed, initial, arrived, operated, replied, operationsOf}
+
+-- what was made, or the number of the row that is broken and its line
+pub data Result (A : Type 0) : Type 0 where
+  fault : (number line : ℕ) → Result A
+  made : A → Result A
+
+-- the logs of n objects from k on, one behind the other
+abbrev pub logsFrom : (ℕ → List Entry) → (k n : ℕ) → List Entry
+logsFrom logs k zero = []
+logsFrom logs k (suc n) = logs k ++ logsFrom logs (suc k) n
+
+module _ (M : Machine) where
+  open Machine M using (Process, Content, advance)
+
+  -- ── a turn, computed by value; the host then commits it ──
+  pub data Turned : Type 0 where
+    -- the rid has not arrived
+    missing : Turned
+    -- the request has its response: a turn does nothing
+    idle : Turned
+    -- the state behind an operation, and behind the reply or cut
+    worked : State M → Turned
+    finished : State M → (rid status value : ℕ) → Turned
+
+  -- a turn runs a request up to and including its next operation, or to its reply or cut
+  abbrev pub turnAt : State M → ℕ → Process → (operations : ℕ) → Next → Turned
+  turnAt s r p k (op o) = worked (operated M s r (suc k) p o)
+  turnAt s r p k (stop status value) = finished (replied M s r p k) r status value
+
+  abbrev pub turnOf : State M → ℕ → Phase M → Turned
+  turnOf s r absent = missing
+  turnOf s r (opened p k) = turnAt s r p k (advance p)
+  turnOf s r (closed w n) = idle
+
+  -- ── the host: the plain run's state, the trace written so far, and how many operations were carried out ──
+  pub record Host : Type 0 where
+    pub state : State M
+    pub trace : List Event
+    pub operations : ℕ
+
+  abbrev pub empty : (ℕ → Content) → Host
+  empty opening = record { state = initial M opening; trace = []; operations = 0 }
+
+  -- one line of the schedule: the host behind it, or row 14
+  pub data Stepped : Type 0 where
+    broken : Stepped
+    on : Host → Stepped
+
+  -- an arrival; a rid that arrives twice breaks row 14
+  abbrev pub arrive : Host → (rid prog a b : ℕ) → Phase M → Stepped
+  arrive h r prog a b absent =
+      on (record {
+        state = arrived M (h .state) r prog a b;
+        trace = h .trace ++ (Request r prog a b ∷ []);
+        operations = h .operations;
+      })
+  arrive h r prog a b (opened p k) = broken
+  arrive h r prog a b (closed w n) = broken
+
+  -- known: the programs that there are; limit: the most operations of a batch
+  module _ (known : ℕ → Bool) (limit : ℕ) where
+    -- a turn of a rid not arrived, or an operation above the limit, breaks row 14
+    abbrev pub commit : Host → Turned → Stepped
+    commit h missing = broken
+    commit h idle = on h
+    commit h (worked s) =
+        cond (ltb (h .operations) limit) (on (record { state = s; trace = h .trace; operations = suc (h .operations) })) broken
+    commit h (finished s r status value) =
+        on (record { state = s; trace = h .trace ++ (Response r status value ∷ []); operations = h .operations })
+
+    -- an unknown program breaks row 14
+    abbrev pub moved : Host → Move → Stepped
+    moved h (Arrive r prog a b) = cond (known prog) (arrive h r prog a b (h .state .phase r)) broken
+    moved h (Turn r) = commit h (turnOf (h .state) r (h .state .phase r))
+
+    -- Row 14, line by line: the schedule from line n on
+    abbrev pub follow : ℕ → Stepped → (Host → Result Host) → Result Host
+    follow n broken f = fault 14 n
+    follow n (on h) f = f h
+
+    abbrev pub played : ℕ → List Move → Host → Result Host
+    played n [] h = made h
+    played n (m ∷ ms) h = follow n (moved h m) (played (suc n) ms)
+
+  -- Row 15: a request left open; the line is that of its arrival.
+  abbrev pub isOpen : Phase M → Bool
+  isOpen absent = false
+  isOpen (opened p k) = true
+  isOpen (closed w n) = false
+
+  abbrev pub bad15 : State M → List Move → Move → Bool
+  bad15 s past (Arrive r prog a b) = isOpen (s .phase r)
+  bad15 s past (Turn r) = false
+
+  abbrev pub row15 : State M → List Move → Option ℕ
+  row15 s ms = firstBad (bad15 s) 1 [] ms
+
+  -- ── what is written ──
+  -- `of` lines in arrival order, with groups n, n + 1 and so on
+  abbrev pub ofsFrom : (ℕ → Phase M) → ℕ → List Event → List Of
+  ofsFrom phase n [] = []
+  ofsFrom phase n (Request r prog a b ∷ es) =
+      record { rid = r; group = n; count = operationsOf M (phase r) } ∷ ofsFrom phase (suc n) es
+  ofsFrom phase n (Response r status value ∷ es) = ofsFrom phase n es
+
+  -- `log` lines by rising object, within one in order of execution
+  abbrev pub batchOf : (objects : ℕ) → Host → Batch
+  batchOf objects h = record {
+    trace = h .trace;
+    ofs = ofsFrom (h .state .phase) 0 (h .trace);
+    log = logsFrom (h .state .logs) 0 objects;
+  }
+
+  abbrev pub close : (objects : ℕ) → Host → Option ℕ → Result Batch
+  close objects h none = made (batchOf objects h)
+  close objects h (some n) = fault 15 n
+
+  abbrev pub write : (objects : ℕ) → List Move → Result Host → Result Batch
+  write objects ms (fault number line) = fault number line
+  write objects ms (made h) = close objects h (row15 (h .state) ms)
+
+  -- the run of a schedule, and the batch that it writes
+  abbrev pub recorded : (known : ℕ → Bool) (limit objects : ℕ) → (ℕ → Content) → List Move → Result Batch
+  recorded known limit objects opening ms = write objects ms (played known limit 1 ms (empty opening))

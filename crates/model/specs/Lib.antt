@@ -1,0 +1,14 @@
+pub mod Machine
+pub mod Batch
+pub mod PlainRun
+pub mod Allowed
+pub mod Nodes
+pub mod Precedes
+pub mod Checks
+pub mod Replay
+pub mod Audit
+pub mod Demand
+pub mod Host
+pub mod Bounds
+pub mod Ranges
+pub mod Answers

@@ -1,0 +1,83 @@
+-- Bool tests with their readings, and maps with an update.
+use mathlib.Core.Path.{_≡_, refl, sym, subst, fun-ext}
+use mathlib.Core.Logic.{_≢_}
+use mathlib.Core.Bool.{Bool, true, false, cond, _&&_, not}
+use Prim.Native.Nat.{ℕ}
+use lib.Dec.{T, eqb, eqb→eq, eqb-refl}
+use native.Mathlib.Omega.{arith}
+use Rattle.ordering.specs.Maps.{upd}
+
+-- anything from equal constructors that differ: `clash (cc)`
+pub clash {ℓ} : {P : Type ℓ} → _≡_ {A = ℕ} 0 1 → P
+clash e = absurd (omega arith)
+
+-- by cases on a test, with its equation
+pub byBool {ℓ} : {P : Type ℓ} (b : Bool) → (b ≡ true → P) → (b ≡ false → P) → P
+byBool true f g = f refl
+byBool false f g = g refl
+
+pub eqb-yes : {a b : ℕ} → a ≡ b → eqb a b ≡ true
+eqb-yes {a} {b} p = go (eqb a b) (subst (λ k. T (eqb a k)) p (eqb-refl a))
+  where
+    go : (c : Bool) → T c → c ≡ true
+    go true t = refl
+    go false t = absurd t
+
+pub eqb-no : {a b : ℕ} → a ≢ b → eqb a b ≡ false
+eqb-no {a} {b} n = go (eqb a b) refl
+  where
+    go : (c : Bool) → eqb a b ≡ c → c ≡ false
+    go true e = absurd (n (eqb→eq a b (subst T (sym e) tt)))
+    go false e = refl
+
+pub yes-eqb : {a b : ℕ} → eqb a b ≡ true → a ≡ b
+yes-eqb {a} {b} e = eqb→eq a b (subst T (sym e) tt)
+
+pub no-eqb : {a b : ℕ} → eqb a b ≡ false → a ≢ b
+no-eqb {a} {b} e p = subst T e (subst (λ k. T (eqb a k)) p (eqb-refl a))
+
+-- by cases on whether two numbers are equal, with the test's value
+pub byEq {ℓ} : {P : Type ℓ} (a b : ℕ) → (a ≡ b → eqb a b ≡ true → P) → (a ≢ b → eqb a b ≡ false → P) → P
+byEq a b f g = byBool (eqb a b) (λ e. f (yes-eqb e) e) (λ e. g (no-eqb e) e)
+
+-- a fact of b: it holds of a, and it holds of b if the two differ
+pub same-or {ℓ} : (P : ℕ → Type ℓ) (a b : ℕ) → P a → (a ≢ b → eqb a b ≡ false → P b) → P b
+same-or P a b h k = byEq a b (λ p _. subst P p h) k
+
+pub eqb-self : (a : ℕ) → eqb a a ≡ true
+eqb-self a = eqb-yes {a = a} refl
+
+pub not-true : {b : Bool} → not b ≡ true → b ≡ false
+not-true {b} e = elim b as (λ b. not b ≡ true → b ≡ false) [ true ↦ (λ e. clash (cc)) | false ↦ (λ e. refl) ] e
+
+pub and-true : (a b : Bool) → (a && b) ≡ true → (a ≡ true) × (b ≡ true)
+and-true true true e = (refl, refl)
+and-true true false e = absurd (subst T (sym e) tt)
+and-true false true e = absurd (subst T (sym e) tt)
+and-true false false e = absurd (subst T (sym e) tt)
+
+pub or-no : (b : Bool) → cond b true false ≡ b
+or-no true = refl
+or-no false = refl
+
+pub or-yes : (b : Bool) → cond b true true ≡ true
+or-yes true = refl
+or-yes false = refl
+
+pub upd-same {ℓ} : {X : Type ℓ} (f : ℕ → X) (k : ℕ) (x : X) → upd f k x k ≡ x
+unfolding upd
+upd-same f k x = rw (eqb-yes {a = k} refl)
+
+pub upd-at {ℓ} : {X : Type ℓ} (f : ℕ → X) {k j : ℕ} (x : X) → k ≡ j → upd f k x j ≡ x
+unfolding upd
+upd-at f x p = rw (eqb-yes p)
+
+pub upd-other {ℓ} : {X : Type ℓ} (f : ℕ → X) {k j : ℕ} (x : X) → k ≢ j → upd f k x j ≡ f j
+unfolding upd
+upd-other f x n = rw (eqb-no n)
+
+pub upd-swap {ℓ} : {X : Type ℓ} (f : ℕ → X) {k j : ℕ} (x y : X) → k ≢ j → upd (upd f k x) j y ≡ upd (upd f j y) k x
+unfolding upd
+upd-swap f {k} {j} x y n = fun-ext λ i. byEq k i
+    (λ p e. byEq j i (λ q d. absurd (n (omega arith))) (λ m d. rw (e, d)))
+    (λ m e. rw e)

@@ -1,0 +1,116 @@
+-- What holds of all items of a list, how many pass a test, and where an item stands.
+use mathlib.Core.Path.{_≡_, refl, sym, ap, subst, _∙_}
+use mathlib.Core.Logic.{_⊎_, inl, inr}
+use mathlib.Core.Bool.{Bool, true}
+use mathlib.Core.List.{
+  List,
+  [],
+  _∷_,
+  _++_,
+  map,
+  List·Memᴰ,
+  List·Memᴰ·head,
+  List·Memᴰ·tail,
+  List·Memᴰ·not-nil,
+  List·Memᴰ·cases-cons,
+  Memᴰ·append-right,
+  append-assoc,
+}
+use Prim.Native.Nat.{ℕ, _+_, _≤_}
+use native.Mathlib.Omega.{arith}
+use Rattle.ordering.specs.Lists.{All, tally, Neighbours, Later}
+use Rattle.ordering.proofs.Basics.{clash}
+
+-- ── all items ──
+pub all-append : {A : Type 0} (P : A → Type 0) (xs ys : List A) → All P xs → All P ys → All P (xs ++ ys)
+all-append P [] ys h k = k
+all-append P (x ∷ xs) ys h k = (h .0, all-append P xs ys (h .1) k)
+
+pub all-append-right : {A : Type 0} (P : A → Type 0) (xs ys : List A) → All P (xs ++ ys) → All P ys
+all-append-right P [] ys h = h
+all-append-right P (x ∷ xs) ys h = all-append-right P xs ys (h .1)
+
+pub all-append-left : {A : Type 0} (P : A → Type 0) (xs ys : List A) → All P (xs ++ ys) → All P xs
+all-append-left P [] ys h = tt
+all-append-left P (x ∷ xs) ys h = (h .0, all-append-left P xs ys (h .1))
+
+pub all-map : {A B : Type 0} (P : B → Type 0) (f : A → B) (xs : List A) → All (λ x. P (f x)) xs → All P (map f xs)
+all-map P f [] h = tt
+all-map P f (x ∷ xs) h = (h .0, all-map P f xs (h .1))
+
+pub all-unmap : {A B : Type 0} (P : B → Type 0) (f : A → B) (xs : List A) → All P (map f xs) → All (λ x. P (f x)) xs
+all-unmap P f [] h = tt
+all-unmap P f (x ∷ xs) h = (h .0, all-unmap P f xs (h .1))
+
+pub all-mem : {A : Type 0} (P : A → Type 0) (xs : List A) → ((x : A) → List·Memᴰ x xs → P x) → All P xs
+all-mem P [] h = tt
+all-mem P (x ∷ xs) h = (h x (List·Memᴰ·head refl), all-mem P xs (λ y m. h y (List·Memᴰ·tail m)))
+
+pub mem-all : {A : Type 0} (P : A → Type 0) {xs : List A} {x : A} → All P xs → List·Memᴰ x xs → P x
+mem-all P h (List·Memᴰ·head e) = subst P (sym e) (h .0)
+mem-all P h (List·Memᴰ·tail m) = mem-all P (h .1) m
+
+pub all-imp : {A : Type 0} (P Q : A → Type 0) → ((x : A) → P x → Q x) → (xs : List A) → All P xs → All Q xs
+all-imp P Q f [] h = tt
+all-imp P Q f (x ∷ xs) h = (f x (h .0), all-imp P Q f xs (h .1))
+
+pub all-any : {A : Type 0} (P : A → Type 0) → ((x : A) → P x) → (xs : List A) → All P xs
+all-any P f [] = tt
+all-any P f (x ∷ xs) = (f x, all-any P f xs)
+
+-- ── how many pass a test ──
+module _ {A : Type 0} (f : A → Bool) where
+  pub tally-append : (xs ys : List A) → tally f (xs ++ ys) ≡ tally f xs + tally f ys
+  tally-append [] ys = omega arith
+  tally-append (x ∷ xs) ys = omega (arith, tally-append xs ys)
+
+  -- a list in which one item passes is split at it in one way
+  pub split-unique : (p q : List A) (z : A) (b d : List A) → f z ≡ true → tally f (p ++ z ∷ b) ≤ 1 → p ++ z ∷ b ≡ q ++ z ∷ d → p ≡ q
+  split-unique [] [] z b d g t e = refl
+  split-unique [] (c ∷ q) z b d g t e =
+      let i : b ≡ q ++ z ∷ d = cc in
+      absurd (let t′ = rw (g, i, tally-append q (z ∷ d), g) at t in omega arith)
+  split-unique (c ∷ p) [] z b d g t e =
+      let i : c ≡ z = cc in
+      absurd (let t′ = rw (i, tally-append p (z ∷ b), g) at t in omega arith)
+  split-unique (c ∷ p) (e′ ∷ q) z b d g t e =
+      let i : c ≡ e′ = cc in
+      let j : p ++ z ∷ b ≡ q ++ z ∷ d = cc in
+      let k : p ≡ q = split-unique p q z b d g (omega (arith, t)) j in cc
+
+  -- and what stands before that item stands in front of the split
+  pub later-front : (xs p q : List A) (y x : A) → f x ≡ true → tally f xs ≤ 1 → Later xs y x → xs ≡ p ++ x ∷ q → List·Memᴰ y p
+  later-front xs p q y x g t l e =
+      let s : xs ≡ (l .front ++ y ∷ l .between) ++ x ∷ l .back = l .split ∙ sym (append-assoc (l .front) (y ∷ l .between) (x ∷ l .back)) in
+      let u : p ≡ l .front ++ y ∷ l .between =
+      split-unique p (l .front ++ y ∷ l .between) x q (l .back) g (subst (λ t. tally f t ≤ 1) e t) (sym e ∙ s) in
+      subst (List·Memᴰ y) (sym u) (Memᴰ·append-right (l .front) (List·Memᴰ·head refl))
+
+-- ── neighbours and later items ──
+module _ {A : Type 0} where
+  pub later-mem : (xs : List A) (y x : A) → Later xs y x → List·Memᴰ x xs
+  later-mem xs y x l =
+      subst (List·Memᴰ x) (sym (l .split))
+      (Memᴰ·append-right (l .front) (List·Memᴰ·tail (Memᴰ·append-right (l .between) (List·Memᴰ·head refl))))
+
+  pub neighbours-later : (xs : List A) (y x : A) → Neighbours xs y x → Later xs y x
+  neighbours-later xs y x n = record { front = n .front; between = []; back = n .back; split = n .split }
+
+  -- an item of a list is its first, or has a neighbour before it
+  abbrev pub First : List A → A → Type 0
+  First xs x = (q : List A) × (xs ≡ x ∷ q)
+
+  abbrev pub Second : List A → A → Type 0
+  Second xs x = (y : A) × Neighbours xs y x
+
+  pub first-or : (xs : List A) (x : A) → List·Memᴰ x xs → First xs x ⊎ Second xs x
+  first-or [] x m = absurd (List·Memᴰ·not-nil m)
+  first-or (z ∷ xs) x m = at (List·Memᴰ·cases-cons m) (first-or xs x)
+    where
+      step : First xs x ⊎ Second xs x → Second (z ∷ xs) x
+      step (inl f) = (z, record { front = []; back = f .0; split = ap (λ t. z ∷ t) (f .1) })
+      step (inr f) = (f .0, record { front = z ∷ f .1 .front; back = f .1 .back; split = ap (λ t. z ∷ t) (f .1 .split) })
+
+      at : (x ≡ z) ⊎ List·Memᴰ x xs → (List·Memᴰ x xs → First xs x ⊎ Second xs x) → First (z ∷ xs) x ⊎ Second (z ∷ xs) x
+      at (inl e) ih = inl (xs, ap (λ t. t ∷ xs) (sym e))
+      at (inr k) ih = inr (step (ih k))
