@@ -1,3 +1,7 @@
 -- The laws that the functions' proofs cite.
+pub mod Tests
 pub mod Scan
 pub mod Steps
+pub mod Nearest
+pub mod Chains
+pub mod Passing

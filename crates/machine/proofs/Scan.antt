@@ -10,6 +10,7 @@ use borrow.Author.Tests.{leb-true}
 use Rattle.text.specs.declared.programs.Instr.{Instr}
 use Rattle.text.specs.declared.programs.Program.{Program}
 use Rattle.machine.specs.Processes.{halt}
+use Rattle.machine.proofs.Tests.{second}
 use Rattle.machine.specs.Rules.{Scan, bad, fine, instructions, programs, bodyOf, bodyKeeps, headKeeps, noProgram}
 
 module _ (p : List Instr) (n j line : ℕ) (h : j < n) where
@@ -40,10 +41,6 @@ module _ (t : List Program) (m k line : ℕ) (h : k < m) where
     pub next-program : (l : ℕ) → bodyOf (getD t k noProgram) (line + 1) ≡ fine l → programs (m - k) t k line ≡ programs (m - (k + 1)) t (k + 1) l
     unfolding programs
     next-program l i = rw (more, e, i)
-
-second : (a b : Bool) → (a && b) ≡ true → b ≡ true
-second true b e = e
-second false b e = cc
 
 -- a program whose line keeps the rules has at most 64 instructions
 pub room : (number n k : ℕ) → headKeeps number n k ≡ true → n ≤ 64

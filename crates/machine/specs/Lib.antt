@@ -3,3 +3,6 @@ pub mod Codes
 pub mod Instructions
 pub mod Processes
 pub mod Rules
+pub mod Objects
+pub mod Logs
+pub mod Index

@@ -1,11 +1,14 @@
 // The machine: the program rules, one instruction, a request from operation to operation, and the objects.
 pub mod codes;
 mod instructions;
+mod objects;
 mod processes;
 mod rules;
 
 pub use instructions::Act;
 pub use instructions::carry_out;
+pub use objects::Cell;
+pub use objects::answers;
 pub use processes::LIMIT;
 pub use processes::Next;
 pub use processes::Stop;
