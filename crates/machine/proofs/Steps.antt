@@ -1,13 +1,14 @@
 -- Laws of a request that goes on: what one instruction does to a request that has instructions left.
 use Prim.Native.Nat.{ℕ, suc, _+_, _-_, _%_, _<_}
-use mathlib.Core.Path.{_≡_, sym, ap}
+use mathlib.Core.Path.{_≡_, sym, ap, _∙_}
 use mathlib.Core.List.{List}
 use native.Mathlib.Omega.{arith}
+use native.Mathlib.Numerals.{add-one}
 use lib.ListN.{set}
 use Rattle.text.specs.declared.programs.Instr.{Instr}
 use Rattle.machine.specs.declared.instructions.Act.{Act}
 use Rattle.machine.specs.Instructions.{effect, effectOf}
-use Rattle.machine.specs.Processes.{behind, follow, go, advanceOf, instrAt, inBuffer, over}
+use Rattle.machine.specs.Processes.{behind, follow, go, advanceOf, instrAt, inBuffer}
 
 module _ (limit : ℕ) (p : List Instr) (l : List ℕ) (at done : ℕ) (h : done < limit) where
   left : limit - done ≡ suc (limit - (done + 1))
@@ -24,5 +25,6 @@ module _ (limit : ℕ) (p : List Instr) (l : List ℕ) (at done : ℕ) (b : List
   pub marked : (b′ m : List ℕ) (x y : Act) → b′ ≡ set b done (at % 64) → effectOf l (instrAt p at) (at % 64 + 1) ≡ effect m x → x ≡ y
       → inBuffer b′ (done + 1) (follow y m (at % 64 + 1) (done + 1) (λ n to. advanceOf limit p n to (done + 1)))
       ≡ inBuffer b done (advanceOf limit p l at done)
-  unfolding over
-  marked b′ m x y d e f = rw (d, ← f) (sym (ap (inBuffer b done) (one limit p l at done h m x e)))
+  marked b′ m x y d e f =
+      let r = follow x m (at % 64 + 1) (done + 1) (λ n to. advanceOf limit p n to (done + 1)) in
+      rw (d, ← f) (ap (λ k. inBuffer (set b done (at % 64)) k r) (add-one done) ∙ sym (ap (inBuffer b done) (one limit p l at done h m x e)))

@@ -9,7 +9,8 @@ use Rattle.machine.specs.declared.instructions.Act.{Act}
 use Rattle.machine.specs.declared.instructions.Act.the-variants.{Goes, Asks, Replies}
 use Rattle.machine.specs.Codes.{Code, reply, constant, add, subtract, less, jump, read, write, get, put, other, codeOf}
 
--- a local, read and set. The program rules keep its number below 8; any other number counts modulo 8, so that nothing is left undefined
+-- a local, read and set. The program rules keep its number below 8, and an object's below 16; others count modulo 8 and 16, so that an
+-- instruction that breaks the rules still does something
 abbrev pub local : List ℕ → ℕ → ℕ
 local l i = getD l (i % 8) 0
 
@@ -33,7 +34,7 @@ sets l i v n = effect (assign l (i .a) v) (Goes n)
 
 -- an operation, whose kind is the code, and the local for its answer, 8 where it takes none
 abbrev pub asks : List ℕ → Instr → (object key value into : ℕ) → Effect
-asks l i object key value into = effect l (Asks (record { object = object; kind = i .code; key = key; value = value }) into)
+asks l i object key value into = effect l (Asks (record { object = object % 16; kind = i .code; key = key; value = value }) into)
 
 -- each code's action on the locals l, where n is the position behind the instruction
 unfoldable pub effectAs : Code → List ℕ → Instr → ℕ → Effect

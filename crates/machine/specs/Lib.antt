@@ -6,3 +6,4 @@ pub mod Rules
 pub mod Objects
 pub mod Logs
 pub mod Index
+pub mod Instance

@@ -4,6 +4,7 @@ use mathlib.Core.List.{List, [], _∷_}
 use mathlib.Core.Bool.{cond}
 use lib.Dec.{ltb}
 use lib.ListN.{getD, set}
+use lib.Seq.{sets}
 use Rattle.text.specs.declared.programs.Instr.{Instr}
 use Rattle.machine.specs.declared.instructions.Act.{Act}
 use Rattle.machine.specs.declared.instructions.Act.the-variants.{Goes, Asks, Replies}
@@ -62,11 +63,6 @@ advanceOf limit p l at done = go (limit - done) p l at done
 abbrev pub resumed : List ℕ → ℕ → ℕ → List ℕ
 resumed l into v = cond (ltb into 8) (set l into v) l
 
--- numbers written one behind the other from place k on, as far as there is room
-unfoldable pub over : List ℕ → ℕ → List ℕ → List ℕ
-over b k [] = b
-over b k (x ∷ xs) = over (set b k x) (k + 1) xs
-
--- the path kept in a buffer, behind the `done` positions that stand there
+-- the same with the path kept in a buffer, behind the `done` positions that stand there, as far as there is room
 abbrev pub inBuffer : List ℕ → ℕ → Advanced → Advanced
-inBuffer b done r = advanced (r .locals) (r .stop) (over b done (r .path))
+inBuffer b done r = advanced (r .locals) (r .stop) (sets b done (r .path))

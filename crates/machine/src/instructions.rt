@@ -12,7 +12,7 @@ use crate::codes::WRITE;
 use text::Instr;
 use text::Op;
 ghost use mathlib.Core.Path.{_≡_};
-ghost use Prim.Native.Nat.{ℕ, _≤_};
+ghost use Prim.Native.Nat.{ℕ, _%_, _≤_};
 ghost use lib.Dec.{ltb};
 ghost use Rattle.machine.specs.declared.instructions.Act.the-variants.{Goes};
 ghost use Rattle.machine.specs.Instructions.{local, assign, bit, effect, effectOf};
@@ -61,10 +61,10 @@ fn computed(l: &[u64; 8], i: Instr) -> u64
 }
 
 fn op_of(object: u64, kind: u64, key: u64, value: u64) -> Op
-    ensures { λ r. ⌜ r ≡ record { object = object; kind = kind; key = key; value = value } ⌝ }
+    ensures { λ r. ⌜ r ≡ record { object = object % 16; kind = kind; key = key; value = value } ⌝ }
 {
     Op {
-        object,
+        object: object % 16,
         kind,
         key,
         value,

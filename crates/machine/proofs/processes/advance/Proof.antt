@@ -2,7 +2,7 @@ use mathlib.Core.Path.{_≡_, refl, _∙_}
 use native.Mathlib.Omega.{arith}
 use Prim.Native.Nat.{_-_}
 use lib.ListN.{length}
-use Rattle.machine.specs.Processes.{advanceOf, inBuffer, go, over}
+use Rattle.machine.specs.Processes.{advanceOf, inBuffer, go}
 use Rattle.machine.proofs.Steps.{marked}
 use borrow.Author.Needs.{needs}
 use Rattle.machine.proofs.processes.advance.Statement.{statement}
@@ -30,7 +30,6 @@ loop-again c =
     )
 
 returns : tie.Need-returns Inv-loop μ-loop
-unfolding over
 returns c =
     let h = c .before .before .before .before .before .before .before .before .before .before .before in
     let a = h .before .before .args in
@@ -39,7 +38,6 @@ returns c =
     ∙ h .loop .inv .1
 
 returns-2 : tie.Need-returns-2 Inv-loop μ-loop
-unfolding over
 returns-2 c =
     let h = c .before .before .before .before .before .before .before .before .before .before .before in
     let a = h .before .before .args in
@@ -48,7 +46,7 @@ returns-2 c =
     ∙ h .loop .inv .1
 
 returns-3 : tie.Need-returns-3 Inv-loop μ-loop
-unfolding go over
+unfolding go
 returns-3 c =
     let z : c .before .before .before .args .limit - c .before .loop .done ≡ 0 = omega arith in
     rw z at (c .before .loop .inv .1)
