@@ -131,7 +131,7 @@ pub within : (limit : ℕ) (table : List Program) → Within (machine limit tabl
 within limit table p o e =
     let d = operation (gone limit table p .stop .next) o e in
     let g = goes (λ l. Unit {0}) (λ o. o .object < 16) (λ v. Unit {0}) (limit - p .done) (codeAt limit table (p .prog))
-      (λ l at n h. near (codeOf (instrAt (codeAt limit table (p .prog)) at .code)) l _ n) (p .locals) (p .at) (p .done) tt in
+    (λ l at n h. near (codeOf (instrAt (codeAt limit table (p .prog)) at .code)) l _ n) (p .locals) (p .at) (p .done) tt in
     subst (FitNext (λ l. Unit {0}) (λ o. o .object < 16) (λ v. Unit {0})) (d .1) (g .next-fit)
 
 -- fields stay below 2^64
@@ -190,7 +190,7 @@ module _ (limit : ℕ) (table : List Program) (words : (prog at : ℕ) → Word 
   went : (p : Process) → Words (p .locals) → FitAdvanced Words FitOp Word (limit - p .done) (p .done) (gone limit table p)
   went p h =
       let g = goes Words FitOp Word (limit - p .done) (codeAt limit table (p .prog))
-        (λ l at n k. fits l (instrAt (codeAt limit table (p .prog)) at) n k (words (p .prog) at) _ refl) (p .locals) (p .at) (p .done) h in
+      (λ l at n k. fits l (instrAt (codeAt limit table (p .prog)) at) n k (words (p .prog) at) _ refl) (p .locals) (p .at) (p .done) h in
       record { locals-fit = g .locals-fit; next-fit = g .next-fit; counted = g .counted }
 
   operates : (n : ℕ) (p : Process) (o : Op) (c : Content) → (limit - p .done ≤ n) × Words (p .locals) → machine limit table .advance p ≡ op o
@@ -202,11 +202,19 @@ module _ (limit : ℕ) (table : List Program) (words : (prog at : ℕ) → Word 
       let g = went p (f .1) in
       let d = operation (r .stop .next) o e in
       let k = g .counted o (d .0) (d .1) in
-      let w : FitOp o = subst (FitNext Words FitOp Word) (d .1) (g .next-fit) in
-      (w, left-fit o (w .4) c h,
-      (limit - r .stop .done, omega (arith, f .0, k .0, k .1), (omega arith,
-      words-resumed (r .locals) (intoOf (r .stop .next)) (apply o c .0) (g .locals-fit)
-      (word-cond (isWrite o c) 0 (reads c (o .key)) (omega arith) (h (o .key))))))
+      let w : FitOp o = subst (FitNext Words FitOp Word) (d .1) (g .next-fit) in (
+        w,
+        left-fit o (w .4) c h,
+        (
+          limit - r .stop .done,
+          omega (arith, f .0, k .0, k .1),
+          (
+            omega arith,
+            words-resumed (r .locals) (intoOf (r .stop .next)) (apply o c .0) (g .locals-fit)
+                (word-cond (isWrite o c) 0 (reads c (o .key)) (omega arith) (h (o .key))),
+          ),
+        ),
+      )
 
   pub bounded : Bounded (machine limit table)
   bounded =
@@ -217,8 +225,10 @@ module _ (limit : ℕ) (table : List Program) (words : (prog at : ℕ) → Word 
         FitOp = FitOp;
         FitReply = λ status value. (status ≤ 1) × Word value;
         most = limit;
-        starts = λ prog a b h. (omega arith,
-          words-cons a (b ∷ replicate 6 0) (h .0) (words-cons b (replicate 6 0) (h .1) (words-zero 6)));
+        starts = λ prog a b h. (
+          omega arith,
+          words-cons a (b ∷ replicate 6 0) (h .0) (words-cons b (replicate 6 0) (h .1) (words-zero 6)),
+        );
         operates = operates;
         stops = λ n p status value f e. replies (gone limit table p .stop .next) status value (went p (f .1) .next-fit) e;
       }

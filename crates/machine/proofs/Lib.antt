@@ -7,3 +7,4 @@ pub mod Bounds
 pub mod Nearest
 pub mod Chains
 pub mod Passing
+mod Cases

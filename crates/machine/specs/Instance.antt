@@ -5,7 +5,7 @@ use mathlib.Core.List.{List, [], _∷_, _++_}
 use lib.ListN.{getD}
 use Rattle.text.specs.declared.programs.Instr.{Instr}
 use Rattle.text.specs.declared.programs.Program.{Program}
-use Rattle.model.specs.Machine.{Machine, op, stop} 
+use Rattle.model.specs.Machine.{Machine, op, stop}
 use Rattle.model.specs.Machine as model
 use Rattle.machine.specs.declared.processes.Next.{Next}
 use Rattle.machine.specs.declared.processes.Next.the-variants.{Operation, Reply, Cut}

@@ -17,6 +17,10 @@ use Rattle.machine.specs.Instructions.{Effect, effectOf}
 abbrev pub firstLocals : ℕ → ℕ → List ℕ
 firstLocals a b = a ∷ b ∷ 0 ∷ 0 ∷ 0 ∷ 0 ∷ 0 ∷ 0 ∷ []
 
+-- a request that has carried out this many instructions without a reply is cut off
+abbrev pub limit : ℕ
+limit = 256
+
 -- what stands past a program's end; the program rules keep a request from there
 abbrev pub halt : Instr
 halt = record { code = 0; a = 0; b = 0; c = 0 }

@@ -111,8 +111,9 @@ fn on_store(
     let b = bucket(x.object, x.key);
     let head = heads[b];
     if x.kind == PUT {
+        let latest = (n + 1) as u16;
         befores[n] = head;
-        heads[b] = (n + 1) as u16;
+        heads[b] = latest;
         return 0;
     }
     value_of(nearest_put(logs, befores, wide(head), x.object, x.key))
