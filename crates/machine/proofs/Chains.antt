@@ -1,5 +1,5 @@
 -- Laws of the index of puts: the chain of a key's bucket passes no put of that key by.
-use Prim.Native.Nat.{ℕ, zero, suc, _+_, _-_, _≤_, _<_}
+use Prim.Native.Nat.{ℕ, zero, suc, _-_, _%_, _≤_, _<_}
 use mathlib.Core.Path.{_≡_, refl, sym, ap, _∙_, subst}
 use mathlib.Core.Bool.{Bool, true, false, cond, _&&_, not}
 use mathlib.Core.List.{List}
@@ -9,10 +9,26 @@ use lib.ListN.{getD}
 use borrow.Author.Tests.{lt-ltb, le-ltb, eqb-true, eq-eqb, ltb-false}
 use Rattle.text.specs.declared.report.Op.{Op}
 use Rattle.machine.specs.declared.objects.Cell.{Cell}
-use Rattle.machine.specs.declared.objects.Cell.the-variants.{Put}
+use Rattle.machine.specs.declared.objects.Cell.the-variants.{Never, Put}
 use Rattle.machine.specs.Logs.{nearest, writes}
-use Rattle.machine.specs.Index.{bucketOf, putsIn, lastPut, Chained}
+use Rattle.machine.specs.Objects.{isRegister}
+use Rattle.machine.specs.Index.{bucketOf, walk}
 use Rattle.machine.proofs.Tests.{byBool, first, second}
+
+-- whether a line is a put of a bucket
+abbrev pub putsIn : (bucket : ℕ) → Op → Bool
+putsIn b o = not (isRegister (o .object)) && (eqb (o .kind) 9 && eqb (bucketOf (o .object) (o .key)) b)
+
+-- the last put of a bucket above line n
+unfoldable pub lastPut : (ℕ → Op) → (bucket n : ℕ) → ℕ
+lastPut line b zero = 0
+lastPut line b (suc n) = cond (putsIn b (line n)) (suc n) (lastPut line b n)
+
+-- a chain from line j on: each link leads to the last put of the bucket above
+pub record Chained (line : ℕ → Op) (b j : ℕ) (befores : List ℕ) : Type 0 where
+  pub room : j ≤ 1024
+  pub put : 0 < j → putsIn b (line (j - 1)) ≡ true
+  pub link : (i : ℕ) → i < j → putsIn b (line i) ≡ true → getD befores i 0 ≡ lastPut line b i
 
 module _ (object key : ℕ) (h : 8 ≤ object) (o : Op) where
   -- a line of an object at a key, that is a put of the bucket, is a write of that key
@@ -73,38 +89,60 @@ module _ (line : ℕ → Op) where
   nearest-last object key (suc n) h =
       byBool (putsIn (bucketOf object key) (line n)) (λ t. rw t) (λ t. rw (t, miss-bucket object key h (line n) t) (nearest-last object key n h))
 
-  nearest-suc : (object key j : ℕ) → 0 < j
-      → nearest line object key j ≡ cond (writes object key (line (j - 1))) (Put (line (j - 1) .value)) (nearest line object key (j - 1))
-  unfolding nearest
-  nearest-suc object key j h = let e : j ≡ suc (j - 1) = omega arith in ap (nearest line object key) e
+  -- one step down a chain
+  module _ (b j : ℕ) (befores : List ℕ) (c : Chained line b (suc j) befores) where
+    here : putsIn b (line j) ≡ true
+    here = let e : suc j - 1 ≡ j = omega arith in rw e at (c .put (omega arith))
 
-  -- one step down a chain, past line x
-  module _ (b j : ℕ) (befores : List ℕ) (c : Chained line b j befores) (h : 0 < j) where
-    link : getD befores (j - 1) 0 ≡ lastPut line b (j - 1)
-    link = c .link (j - 1) (omega arith) (c .put h)
+    link : getD befores (j % 1024) 0 ≡ lastPut line b j
+    link = let e : j % 1024 ≡ j = omega (arith, c .room) in rw e (c .link j (omega arith) here)
 
-    pub chain-less : getD befores (j - 1) 0 < j
-    chain-less = let l = lastPut-le b (j - 1) in omega (arith, link)
-
-    pub chain-next : Chained line b (getD befores (j - 1) 0) befores
+    chain-next : Chained line b (getD befores (j % 1024) 0) befores
     chain-next =
-        let l = lastPut-le b (j - 1) in
+        let l = lastPut-le b j in
         subst (λ m. Chained line b m befores) (sym link) (record {
           room = omega (arith, c .room);
-          put = lastPut-put b (j - 1);
+          put = lastPut-put b j;
           link = λ i k p. c .link i (omega arith) p;
         })
 
-  module _ (object key j : ℕ) (befores : List ℕ) (c : Chained line (bucketOf object key) j befores) (h : 0 < j) (k : 8 ≤ object)
-      (x : Op) (e : x ≡ line (j - 1)) where
-    pub chain-hit : (eqb (x .object) object && eqb (x .key) key) ≡ true → nearest line object key j ≡ Put (x .value)
-    chain-hit s =
-        let at : (eqb (line (j - 1) .object) object && eqb (line (j - 1) .key) key) ≡ true = rw e at s in
-        nearest-suc object key j h ∙ rw (hit object key k (line (j - 1)) (c .put h) at) (ap (λ o. Put (o .value)) (sym e))
+  -- a walk down the chain of a key's bucket finds the nearest put of the key
+  pub walk-nearest : (object key k j : ℕ) (befores : List ℕ) → 8 ≤ object → j ≤ k → Chained line (bucketOf object key) j befores
+      → walk line befores object key k j ≡ nearest line object key j
+  unfolding walk nearest
+  walk-nearest object key zero zero befores h g c = refl
+  walk-nearest object key zero (suc j) befores h g c = absurd (omega arith)
+  walk-nearest object key (suc k) zero befores h g c = refl
+  walk-nearest object key (suc k) (suc j) befores h g c =
+      let b = bucketOf object key in
+      let l = lastPut-le b j in
+      byBool (eqb (line j .object) object && eqb (line j .key) key)
+      (λ s. rw (s, hit object key h (line j) (here b j befores c) s))
+      (λ s. rw (s, miss object key h (line j) s)
+      (walk-nearest object key k (getD befores (j % 1024) 0) befores h (omega (arith, link b j befores c)) (chain-next b j befores c)
+      ∙ ap (nearest line object key) (link b j befores c) ∙ sym (nearest-last object key j h)))
 
-    pub chain-miss : (eqb (x .object) object && eqb (x .key) key) ≡ false
-        → nearest line object key j ≡ nearest line object key (getD befores (j - 1) 0)
-    chain-miss s =
-        let at : (eqb (line (j - 1) .object) object && eqb (line (j - 1) .key) key) ≡ false = rw e at s in
-        nearest-suc object key j h
-        ∙ rw (miss object key k (line (j - 1)) at, link (bucketOf object key) j befores c h) (nearest-last object key (j - 1) k)
+-- one step of a walk, as a loop takes it at line j, with x there
+module _ (line : ℕ → Op) (befores : List ℕ) (object key k j : ℕ) (h : 0 < k) where
+  more : k ≡ suc (k - 1)
+  more = omega arith
+
+  pub walk-end : j ≡ 0 → walk line befores object key k j ≡ Never
+  unfolding walk
+  walk-end e = rw (more, e)
+
+  module _ (g : j ≡ 0 → ⊥) (x : Op) (e : x ≡ line (j - 1)) where
+    below : j ≡ suc (j - 1)
+    below = omega arith
+
+    walk-step : walk line befores object key k j
+        ≡ cond (eqb (x .object) object && eqb (x .key) key) (Put (x .value)) (walk line befores object key (k - 1) (getD befores ((j - 1) % 1024) 0))
+    unfolding walk
+    walk-step = _∙_ {b = walk line befores object key (suc (k - 1)) (suc (j - 1))} (λ i. walk line befores object key (more i) (below i)) (rw e)
+
+    pub walk-hit : (eqb (x .object) object && eqb (x .key) key) ≡ true → walk line befores object key k j ≡ Put (x .value)
+    walk-hit s = walk-step ∙ rw s
+
+    pub walk-on : (eqb (x .object) object && eqb (x .key) key) ≡ false
+        → walk line befores object key k j ≡ walk line befores object key (k - 1) (getD befores ((j - 1) % 1024) 0)
+    walk-on s = walk-step ∙ rw s

@@ -1,46 +1,62 @@
--- What the arrays of the forward pass over a log hold, when it has passed n lines: each register's value, and for the stores an index of the puts.
--- The index has a chain of lines for each bucket of keys, the latest put first. Lines on it count from 1, and 0 ends a chain.
-use Prim.Native.Nat.{ℕ, zero, suc, _+_, _-_, _*_, _%_, _<_, _≤_}
-use mathlib.Core.Path.{_≡_}
-use mathlib.Core.Bool.{Bool, true, cond, _&&_, not}
+-- The objects held in arrays, as the lines of a log leave them one after the other: the registers' values, and for the stores an index of the
+-- puts. The index has a chain for each bucket of keys, the latest put first: its head, and for each put the one before it. Lines on a chain
+-- count from 1, and 0 ends it. That the arrays hold what `apply` leaves is a law; here is what is done to them, whatever they hold.
+use Prim.Native.Nat.{ℕ, zero, suc, _+_, _*_, _%_}
+use mathlib.Core.Bool.{cond, _&&_}
 use mathlib.Core.List.{List}
 use lib.Dec.{eqb}
-use lib.ListN.{getD, length}
+use lib.ListN.{getD, set}
 use Rattle.text.specs.declared.report.Op.{Op}
-use Rattle.machine.specs.Objects.{apply, atStart, isRegister, valueOf}
-use Rattle.machine.specs.Logs.{firstOps, afterAll, nearest}
+use Rattle.machine.specs.declared.objects.Cell.{Cell}
+use Rattle.machine.specs.declared.objects.Cell.the-variants.{Never, Put}
+use Rattle.machine.specs.Objects.{register, reads, apply, isRegister, valueOf}
 
 -- the bucket of a store's key, below 1,016
 abbrev pub bucketOf : (object key : ℕ) → ℕ
 bucketOf object key = key % 127 * 8 + object % 8
 
--- whether a line is a put of a bucket
-abbrev pub putsIn : (bucket : ℕ) → Op → Bool
-putsIn b o = not (isRegister (o .object)) && (eqb (o .kind) 9 && eqb (bucketOf (o .object) (o .key)) b)
+-- the first put of a key on a chain from line j on, within k steps
+unfoldable pub walk : (ℕ → Op) → (befores : List ℕ) → (object key k j : ℕ) → Cell
+walk line befores object key zero j = Never
+walk line befores object key (suc k) zero = Never
+walk line befores object key (suc k) (suc j) =
+    cond (eqb (line j .object) object && eqb (line j .key) key) (Put (line j .value))
+    (walk line befores object key k (getD befores (j % 1024) 0))
 
--- the last put of a bucket above line n
-unfoldable pub lastPut : (ℕ → Op) → (bucket n : ℕ) → ℕ
-lastPut line b zero = 0
-lastPut line b (suc n) = cond (putsIn b (line n)) (suc n) (lastPut line b n)
+-- what an operation leaves in a register that holds v
+abbrev pub registerLeft : Op → ℕ → ℕ
+registerLeft x v = reads (apply x (register v) .1) 0
 
--- a chain from the line `from` on: each link leads to the last put of the bucket above
-pub record Chained (line : ℕ → Op) (b from : ℕ) (befores : List ℕ) : Type 0 where
-  pub room : from ≤ 1024
-  pub put : 0 < from → putsIn b (line (from - 1)) ≡ true
-  pub link : (j : ℕ) → j < from → putsIn b (line j) ≡ true → getD befores j 0 ≡ lastPut line b j
+-- an answer, and the index behind it
+pub record Stored : Type 0 where
+  pub answer : ℕ
+  pub heads : List ℕ
+  pub befores : List ℕ
 
--- the index of the puts above line n
-pub record Indexed (line : ℕ → Op) (n : ℕ) (heads befores : List ℕ) : Type 0 where
-  pub heads-length : length heads ≡ 1016
-  pub befores-length : length befores ≡ 1024
-  pub head : (b : ℕ) → b < 1016 → getD heads b 0 ≡ lastPut line b n
-  pub link : (b j : ℕ) → j < n → putsIn b (line j) ≡ true → getD befores j 0 ≡ lastPut line b j
+abbrev pub stored : ℕ → (heads befores : List ℕ) → Stored
+stored v hs bs = record { answer = v; heads = hs; befores = bs }
 
--- the registers above line n
-pub record Registers (line : ℕ → Op) (n : ℕ) (registers : List ℕ) : Type 0 where
-  pub size : length registers ≡ 8
-  pub value : (object : ℕ) → object < 8 → getD registers object 0 ≡ valueOf (nearest line object 0 n)
+-- line n, which is x, on a store: a put becomes the head of its bucket's chain; anything else reads
+abbrev pub onStore : (ℕ → Op) → ℕ → Op → (heads befores : List ℕ) → Stored
+onStore line n x hs bs =
+    cond (eqb (x .kind) 9)
+    (stored 0 (set hs (bucketOf (x .object) (x .key)) (n % 1024 + 1)) (set bs (n % 1024) (getD hs (bucketOf (x .object) (x .key)) 0)))
+    (stored (valueOf (walk line bs (x .object) (x .key) 1024 (getD hs (bucketOf (x .object) (x .key)) 0))) hs bs)
 
--- the answer of line n's operation
-abbrev pub answerAt : (ℕ → Op) → ℕ → ℕ
-answerAt line n = apply (line n) (afterAll atStart (firstOps line n) (line n .object)) .0
+-- an answer, and all the arrays behind it
+pub record Performed : Type 0 where
+  pub answer : ℕ
+  pub registers : List ℕ
+  pub heads : List ℕ
+  pub befores : List ℕ
+
+abbrev pub performed : List ℕ → Stored → Performed
+performed rs s = record { answer = s .answer; registers = rs; heads = s .heads; befores = s .befores }
+
+-- the operation of line n
+abbrev pub performOf : (ℕ → Op) → ℕ → (registers heads befores : List ℕ) → Performed
+performOf line n rs hs bs =
+    cond (isRegister (line n .object))
+    (performed (set rs (line n .object % 8) (registerLeft (line n) (getD rs (line n .object % 8) 0)))
+    (stored (apply (line n) (register (getD rs (line n .object % 8) 0)) .0) hs bs))
+    (performed rs (onStore line n (line n) hs bs))

@@ -2,16 +2,17 @@
 // puts are kept on chains, one for each bucket of keys, so that a get looks at few lines.
 use crate::codes::PUT;
 use crate::codes::WRITE;
+use crate::least;
 use text::Op;
 ghost use mathlib.Core.Path.{_≡_};
 ghost use mathlib.Core.Bool.{_&&_};
-ghost use Prim.Native.Nat.{_+_, _%_, _<_, _≤_, min};
+ghost use Prim.Native.Nat.{_%_, min};
 ghost use lib.Dec.{eqb};
 ghost use lib.ListN.{getD, set};
 ghost use lib.Seq.{sets};
-ghost use Rattle.machine.specs.Objects.{valueOf, register, reads, apply, atStart};
-ghost use Rattle.machine.specs.Logs.{opAt, firstOps, answersFrom, nearest};
-ghost use Rattle.machine.specs.Index.{bucketOf, Chained, Indexed, Registers, answerAt};
+ghost use Rattle.machine.specs.Objects.{register, apply, valueOf, atStart};
+ghost use Rattle.machine.specs.Logs.{opAt, firstOps, answersFrom};
+ghost use Rattle.machine.specs.Index.{bucketOf, walk, registerLeft, stored, onStore, performed, performOf};
 
 // What a store holds at a key.
 pub enum Cell {
@@ -55,7 +56,8 @@ fn value_of(c: Cell) -> u64
 // An operation on a register. The answer is the register's value, or 0 for a write.
 fn on_register(registers: &mut [u64; 8], x: Op) -> u64
     ensures { λ r. ⌜ (r ≡ apply x (register (getD (now (registers .entry)) (x .object % 8) 0)) .0)
-        × (now (registers .exit) ≡ set (now (registers .entry)) (x .object % 8) (reads (apply x (register (getD (now (registers .entry)) (x .object % 8) 0)) .1) 0)) ⌝ }
+        × (now (registers .exit)
+        ≡ set (now (registers .entry)) (x .object % 8) (registerLeft x (getD (now (registers .entry)) (x .object % 8) 0))) ⌝ }
 {
     let o = (x.object % 8) as usize;
     if x.kind == WRITE {
@@ -75,7 +77,7 @@ fn is_at(x: Op, object: u64, key: u64) -> bool
     }
 }
 
-// The nearest put of a key on the chain of its bucket, from the line `from` on.
+// The nearest put of a key on a chain, from the line `from` on. No chain has more than 1,024 lines.
 fn nearest_put(
     logs: &[u64; 6144],
     befores: &[u16; 1024],
@@ -83,16 +85,20 @@ fn nearest_put(
     object: u64,
     key: u64,
 ) -> Cell
-    requires { ⌜ (8 ≤ object) × Chained (opAt (now logs)) (bucketOf object key) from (now befores) ⌝ }
-    ensures { λ r. ⌜ r ≡ nearest (opAt (now (logs .entry))) object key from ⌝ }
+    ensures { λ r. ⌜ r ≡ walk (opAt (now (logs .entry))) (now (befores .entry)) object key 1024 from ⌝ }
 {
     let mut j = from;
-    while 0 < j {
+    let mut left: usize = 1024;
+    while 0 < left {
+        if j == 0 {
+            return Cell::Never;
+        }
         let x = op_at(logs, j - 1);
         if is_at(x, object, key) {
             return Cell::Put(x.value);
         }
-        j = wide(befores[j - 1]);
+        j = wide(befores[(j - 1) % 1024]);
+        left -= 1;
     }
     Cell::Never
 }
@@ -105,44 +111,36 @@ fn on_store(
     heads: &mut [u16; 1016],
     befores: &mut [u16; 1024],
 ) -> u64
-    requires { ⌜ (n < 1024) × (8 ≤ x .object) × (x ≡ opAt (now logs) n) × Indexed (opAt (now logs)) n (now heads) (now befores) ⌝ }
-    ensures { λ r. ⌜ (r ≡ answerAt (opAt (now (logs .entry))) n) × Indexed (opAt (now (logs .entry))) (n + 1) (now (heads .exit)) (now (befores .exit)) ⌝ }
+    ensures { λ r. ⌜ stored r (now (heads .exit)) (now (befores .exit))
+        ≡ onStore (opAt (now (logs .entry))) n x (now (heads .entry)) (now (befores .entry)) ⌝ }
 {
     let b = bucket(x.object, x.key);
     let head = heads[b];
     if x.kind == PUT {
-        let latest = (n + 1) as u16;
-        befores[n] = head;
+        let latest = (n % 1024 + 1) as u16;
+        befores[n % 1024] = head;
         heads[b] = latest;
         return 0;
     }
     value_of(nearest_put(logs, befores, wide(head), x.object, x.key))
 }
 
-// Line n, of any object.
-fn pass(
+// The operation of line n on the objects as the lines above it left them in the arrays, which are all 0 before the first line.
+pub fn perform(
     logs: &[u64; 6144],
     n: usize,
     registers: &mut [u64; 8],
     heads: &mut [u16; 1016],
     befores: &mut [u16; 1024],
 ) -> u64
-    requires { ⌜ (n < 1024) × Registers (opAt (now logs)) n (now registers) × Indexed (opAt (now logs)) n (now heads) (now befores) ⌝ }
-    ensures { λ r. ⌜ (r ≡ answerAt (opAt (now (logs .entry))) n)
-        × Registers (opAt (now (logs .entry))) (n + 1) (now (registers .exit))
-        × Indexed (opAt (now (logs .entry))) (n + 1) (now (heads .exit)) (now (befores .exit)) ⌝ }
+    ensures { λ r. ⌜ performed (now (registers .exit)) (stored r (now (heads .exit)) (now (befores .exit)))
+        ≡ performOf (opAt (now (logs .entry))) n (now (registers .entry)) (now (heads .entry)) (now (befores .entry)) ⌝ }
 {
     let x = op_at(logs, n);
     if x.object < 8 {
         return on_register(registers, x);
     }
     on_store(logs, n, x, heads, befores)
-}
-
-fn least(x: usize, y: usize) -> usize
-    ensures { λ r. ⌜ r ≡ min x y ⌝ }
-{
-    if x < y { x } else { y }
 }
 
 // The answers of the first n lines, at most 1,024, to the front of `out`.
@@ -155,7 +153,7 @@ pub fn answers(logs: &[u64; 6144], n: usize, out: &mut [u64; 1024])
     let mut befores = [0u16; 1024];
     let mut i: usize = 0;
     while i < count {
-        let v = pass(logs, i, &mut registers, &mut heads, &mut befores);
+        let v = perform(logs, i, &mut registers, &mut heads, &mut befores);
         out[i] = v;
         i += 1;
     }

@@ -1,4 +1,5 @@
 // The program rules: the first line of the programs text that breaks one.
+use crate::least;
 use text::Instr;
 use text::Programs;
 ghost use mathlib.Core.Path.{_≡_};
@@ -139,12 +140,6 @@ fn body_keeps(i: Instr, j: usize, n: usize) -> bool
     } else {
         false
     }
-}
-
-fn least(x: usize, y: usize) -> usize
-    ensures { λ r. ⌜ r ≡ min x y ⌝ }
-{
-    if x < y { x } else { y }
 }
 
 // Every line of the text is a `program` or a `do`, so the programs' counts give the line.

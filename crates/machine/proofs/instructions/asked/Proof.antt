@@ -1,3 +1,4 @@
+-- `asked` meets its contract: each operation is the one that its code's clause asks for.
 use mathlib.Core.Path.{_≡_}
 use native.Mathlib.Omega.{arith}
 use Rattle.machine.specs.Instructions.{effectAs}

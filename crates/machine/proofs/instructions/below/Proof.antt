@@ -1,3 +1,4 @@
+-- `below` meets its contract.
 use borrow.Author.Tests.{lt-ltb, le-ltb}
 use Rattle.machine.proofs.instructions.below.Statement.{statement}
 use Rattle.machine.proofs.instructions.below.Tie as tie

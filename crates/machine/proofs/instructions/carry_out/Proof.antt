@@ -1,3 +1,4 @@
+-- `carry_out` meets its contract; a number past the codes does nothing.
 use lib.ListN.{List·getD-eq-default}
 use Rattle.machine.specs.Codes.{codes, other}
 use mathlib.Core.Path.{ap}

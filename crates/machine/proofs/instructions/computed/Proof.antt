@@ -1,3 +1,4 @@
+-- `computed` meets its contract: each code it takes sets local a to its value.
 use mathlib.Core.Path.{_≡_}
 use native.Mathlib.Omega.{arith}
 use Prim.Native.Nat.{_+_, _-_, _%_, _^_}

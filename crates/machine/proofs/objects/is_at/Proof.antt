@@ -1,3 +1,4 @@
+-- `is_at` meets its contract.
 use borrow.Author.Tests.{eq-eqb, ne-eqb}
 use Rattle.machine.proofs.objects.is_at.Statement.{statement}
 use Rattle.machine.proofs.objects.is_at.Tie as tie

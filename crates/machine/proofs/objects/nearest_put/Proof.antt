@@ -1,51 +1,51 @@
+-- `nearest_put` meets its contract. The invariant: the walk from here gives what the walk from the start gives.
 use mathlib.Core.Path.{_≡_, refl, sym, _∙_}
 use native.Mathlib.Omega.{arith}
-use Rattle.machine.specs.Logs.{opAt, nearest}
-use Rattle.machine.specs.Index.{bucketOf, Chained}
-use Rattle.machine.proofs.Chains.{chain-less, chain-next, chain-hit, chain-miss}
+use Rattle.machine.specs.Logs.{opAt}
+use Rattle.machine.specs.Index.{walk}
+use Rattle.machine.proofs.Chains.{walk-end, walk-hit, walk-on}
 use borrow.Author.Needs.{needs}
 use Rattle.machine.proofs.objects.nearest_put.Statement.{statement}
 use Rattle.machine.proofs.objects.nearest_put.Tie as tie
 
 abbrev Inv-loop : tie.InvT-loop
-Inv-loop logs befores from object key j₀ j =
-    Chained (opAt logs) (bucketOf object key) j befores × (nearest (opAt logs) object key from ≡ nearest (opAt logs) object key j)
+Inv-loop logs befores from object key j₀ left₀ j left = walk (opAt logs) befores object key left j ≡ walk (opAt logs) befores object key 1024 from
 
 abbrev μ-loop : tie.MeasureT-loop
-μ-loop logs befores from object key j₀ j = j
+μ-loop logs befores from object key j₀ left₀ j left = left
 
 loop-holds : tie.Need-loop-holds Inv-loop μ-loop
-loop-holds c = (c .pre .1, refl)
+loop-holds c = refl
 
 returns : tie.Need-returns Inv-loop μ-loop
 returns c =
-    let h = c .before .before .before .before in
-    sym
-    (h .loop .inv .1
-    ∙ chain-hit _ _ _ _ _ (h .loop .inv .0) (c .before .before .before .loop-test .taken) (h .before .pre .0) _ (c .before .before .op-at .ensures)
-    (sym (c .before .is-at .ensures) ∙ c .if1 .taken))
+    let h = c .before .before in
+    let a = h .before .args in
+    sym (sym (h .loop .inv) ∙ walk-end (opAt (a .logs .now)) (a .befores .now) (a .object) (a .key) (h .loop .left) (h .loop .j) (c .before .loop-test .taken) (c .if1 .taken))
 
-loop-less : tie.Need-loop-less Inv-loop μ-loop
-loop-less c =
-    let h = c .before .before .before .before .before .before in
-    omega (arith, c .wide .ensures, chain-less _ _ _ _ (h .loop .inv .0) (c .before .before .before .before .before .loop-test .taken))
+returns-2 : tie.Need-returns-2 Inv-loop μ-loop
+returns-2 c =
+    let h = c .before .before .before .before .before in
+    let a = h .before .args in
+    sym
+    (sym (h .loop .inv)
+    ∙ walk-hit (opAt (a .logs .now)) (a .befores .now) (a .object) (a .key) (h .loop .left) (h .loop .j) (c .before .before .before .before .loop-test .taken) (c .before .before .before .if1 .left) _ (c .before .before .op-at .ensures) (sym (c .before .is-at .ensures) ∙ c .if2 .taken))
 
 loop-again : tie.Need-loop-again Inv-loop μ-loop
 loop-again c =
-    let h = c .before .before .before .before .before .before in
-    let more = c .before .before .before .before .before .loop-test .taken in
-    rw (c .wide .ensures) (
-      chain-next _ _ _ _ (h .loop .inv .0) more,
-      h .loop .inv .1
-          ∙ chain-miss _ _ _ _ _ (h .loop .inv .0) more (h .before .pre .0) _ (c .before .before .before .before .op-at .ensures)
-          (sym (c .before .before .before .is-at .ensures) ∙ c .before .before .if1 .left),
-    )
+    let h = c .before .before .before .before .before .before .before in
+    let a = h .before .args in
+    rw (c .wide .ensures)
+    (sym
+    (walk-on (opAt (a .logs .now)) (a .befores .now) (a .object) (a .key) (h .loop .left) (h .loop .j) (c .before .before .before .before .before .before .loop-test .taken) (c .before .before .before .before .before .if1 .left) _ (c .before .before .before .before .op-at .ensures)
+    (sym (c .before .before .before .is-at .ensures) ∙ c .before .before .if2 .left))
+    ∙ h .loop .inv)
 
-returns-2 : tie.Need-returns-2 Inv-loop μ-loop
-unfolding nearest
-returns-2 c =
-    let z : c .before .loop .j ≡ 0 = omega arith in
-    sym (rw z at (c .before .loop .inv .1))
+returns-3 : tie.Need-returns-3 Inv-loop μ-loop
+unfolding walk
+returns-3 c =
+    let z : c .before .loop .left ≡ 0 = omega arith in
+    rw z at (c .before .loop .inv)
 
 pub nearest-put-spec : {M : Type 1} → statement M
 nearest-put-spec =
@@ -54,14 +54,16 @@ nearest-put-spec =
     Inv-loop
     μ-loop
     loop-holds
-    (λ c. search needs)
-    (λ c κs. search needs)
-    (λ c κs. search needs)
     returns
     (λ c. search needs)
+    (λ c κs. search needs)
+    (λ c κs. search needs)
+    returns-2
+    (λ c. search needs)
     (λ c. search needs)
     (λ c. search needs)
     (λ c κs. search needs)
-    loop-less
+    (λ c. search needs)
+    (λ c. search needs)
     loop-again
-    returns-2)
+    returns-3)

@@ -1,3 +1,4 @@
+-- `on_register` meets its contract; a register that is not written is set to what it held.
 use mathlib.Core.Path.{sym}
 use lib.Seq.{set-getD}
 use borrow.Author.Tests.{eq-eqb, ne-eqb}

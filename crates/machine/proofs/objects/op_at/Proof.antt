@@ -1,3 +1,4 @@
+-- `op_at` meets its contract.
 use mathlib.Core.Path.{refl}
 use Rattle.machine.specs.Logs.{opAt}
 use borrow.Author.Needs.{needs}

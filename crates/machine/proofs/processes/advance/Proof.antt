@@ -1,3 +1,4 @@
+-- `advance` meets its contract. The invariant: the definition at where the request stands gives what it gives at the start.
 use mathlib.Core.Path.{_≡_, refl, _∙_}
 use native.Mathlib.Omega.{arith}
 use Prim.Native.Nat.{_-_}

@@ -1,3 +1,4 @@
+-- `mark` meets its contract; a store past the end changes nothing.
 use Prim.Native.Nat.{_%_}
 use lib.Seq.{set-out}
 use borrow.Author.Needs.{needs}

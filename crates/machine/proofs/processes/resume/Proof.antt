@@ -1,3 +1,4 @@
+-- `resume` meets its contract.
 use borrow.Author.Tests.{lt-ltb, le-ltb}
 use borrow.Author.Needs.{needs}
 use Rattle.machine.proofs.processes.resume.Statement.{statement}

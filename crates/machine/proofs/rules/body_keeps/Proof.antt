@@ -1,3 +1,4 @@
+-- `body_keeps` meets its contract.
 use borrow.Author.Tests.{lt-ltb, le-ltb}
 use borrow.Author.Needs.{needs}
 use Rattle.machine.proofs.rules.body_keeps.Statement.{statement}

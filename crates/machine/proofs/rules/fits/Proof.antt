@@ -1,3 +1,4 @@
+-- `fits` meets its contract.
 use borrow.Author.Tests.{le-leb, lt-leb}
 use borrow.Author.Needs.{needs}
 use Rattle.machine.proofs.rules.fits.Statement.{statement}

@@ -1,3 +1,4 @@
+-- `head_keeps` meets its contract.
 use borrow.Author.Tests.{eq-eqb, ne-eqb}
 use Rattle.machine.proofs.rules.head_keeps.Statement.{statement}
 use Rattle.machine.proofs.rules.head_keeps.Tie as tie

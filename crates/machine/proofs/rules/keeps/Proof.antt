@@ -1,3 +1,4 @@
+-- `keeps` meets its contract: the row of the code is the definition's.
 use mathlib.Core.Path.{sym, _∙_}
 use borrow.Author.Tests.{lt-ltb, le-ltb, not-true, not-false}
 use borrow.Author.Needs.{needs}
