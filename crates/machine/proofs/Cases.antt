@@ -124,8 +124,9 @@ good = refl
 bad :
     map (keepsFields 3)
     (instr 0 8 0 0 ∷ instr 0 7 1 0 ∷ instr 0 7 0 1 ∷ instr 1 8 0 0 ∷ instr 1 7 0 1
-    ∷ instr 2 8 7 7 ∷ instr 2 7 8 7 ∷ instr 2 7 7 8 ∷ instr 3 8 7 7 ∷ instr 3 7 8 7 ∷ instr 3 7 7 8 ∷ instr 4 8 7 7 ∷ instr 4 7 8 7 ∷ instr 4 7 7 8
-    ∷ instr 5 8 2 0 ∷ instr 5 7 3 0 ∷ instr 5 7 2 1 ∷ instr 6 8 7 0 ∷ instr 6 7 8 0 ∷ instr 6 7 7 1 ∷ instr 7 8 7 0 ∷ instr 7 7 8 0 ∷ instr 7 7 7 1
+    ∷ instr 2 8 7 7 ∷ instr 2 7 8 7 ∷ instr 2 7 7 8 ∷ instr 3 8 7 7 ∷ instr 3 7 8 7 ∷ instr 3 7 7 8
+    ∷ instr 4 8 7 7 ∷ instr 4 7 8 7 ∷ instr 4 7 7 8 ∷ instr 5 8 2 0 ∷ instr 5 7 3 0 ∷ instr 5 7 2 1
+    ∷ instr 6 8 7 0 ∷ instr 6 7 8 0 ∷ instr 6 7 7 1 ∷ instr 7 8 7 0 ∷ instr 7 7 8 0 ∷ instr 7 7 7 1
     ∷ instr 8 8 8 7 ∷ instr 8 7 7 7 ∷ instr 8 7 16 7 ∷ instr 8 7 8 8 ∷ instr 9 7 7 7 ∷ instr 9 16 7 7 ∷ instr 9 8 8 7 ∷ instr 9 8 7 8
     ∷ instr 10 0 0 0 ∷ [])
     ≡ replicate 32 false
@@ -141,7 +142,8 @@ rules t = rulingOf (length t) t
 abbrev short : List Instr
 short = instr 0 0 0 0 ∷ []
 
--- no program; two good ones; a local 8; a wrong last code; an empty program, at its own line; a number out of sequence; a bad line in program 1
+-- no program; two good ones; a local 8; a wrong last code; an empty program, at its own line; a number out of sequence; a target in program 1
+-- that is its number of instructions
 broken :
     map rules
     ([]
@@ -157,7 +159,8 @@ unfolding programs instructions
 broken = refl
 
 -- ── the objects ──
--- a write is read again; a store has its keys apart, a register none; a key put as 0 or never put reads 0; a kind that does not fit its object does not write
+-- a write is read again; a store has its keys apart, a register none; a key put as 0 or never put reads 0; a kind that does not fit its
+-- object does not write
 answers :
     answersFrom atStart
     (oper 0 7 0 4 ∷ oper 0 6 0 0 ∷ oper 1 6 0 0 ∷ oper 0 7 5 6 ∷ oper 0 6 9 0 ∷ oper 8 9 2 7 ∷ oper 8 8 2 0 ∷ oper 8 8 3 0 ∷ oper 9 8 2 0

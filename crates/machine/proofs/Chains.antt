@@ -87,7 +87,8 @@ module _ (line : ℕ → Op) where
   unfolding nearest lastPut
   nearest-last object key zero h = refl
   nearest-last object key (suc n) h =
-      byBool (putsIn (bucketOf object key) (line n)) (λ t. rw t) (λ t. rw (t, miss-bucket object key h (line n) t) (nearest-last object key n h))
+      byBool (putsIn (bucketOf object key) (line n)) (λ t. rw t)
+      (λ t. rw (t, miss-bucket object key h (line n) t) (nearest-last object key n h))
 
   -- one step down a chain
   module _ (b j : ℕ) (befores : List ℕ) (c : Chained line b (suc j) befores) where
@@ -136,9 +137,12 @@ module _ (line : ℕ → Op) (befores : List ℕ) (object key k j : ℕ) (h : 0 
     below = omega arith
 
     walk-step : walk line befores object key k j
-        ≡ cond (eqb (x .object) object && eqb (x .key) key) (Put (x .value)) (walk line befores object key (k - 1) (getD befores ((j - 1) % 1024) 0))
+        ≡ cond (eqb (x .object) object && eqb (x .key) key) (Put (x .value))
+        (walk line befores object key (k - 1) (getD befores ((j - 1) % 1024) 0))
     unfolding walk
-    walk-step = _∙_ {b = walk line befores object key (suc (k - 1)) (suc (j - 1))} (λ i. walk line befores object key (more i) (below i)) (rw e)
+    walk-step =
+        _∙_ {b = walk line befores object key (suc (k - 1)) (suc (j - 1))}
+        (λ i. walk line befores object key (more i) (below i)) (rw e)
 
     pub walk-hit : (eqb (x .object) object && eqb (x .key) key) ≡ true → walk line befores object key k j ≡ Put (x .value)
     walk-hit s = walk-step ∙ rw s

@@ -32,16 +32,21 @@ module _ (cs : ℕ → Content) (o : Op) (object : ℕ) where
 
   after-store : (cells : ℕ → Cell) → 8 ≤ object → cs object ≡ store cells
       → after cs o object ≡ store (λ key. cond (writes object key o) (Put (o .value)) (cells key))
-  after-store cells h e = byBool (eqb (o .object) object) (λ t. rw (le-ltb object 8 h, own t e, t) (byBool (eqb (o .kind) 9) (λ u. rw u) (λ u. rw u))) (λ t. rw t e)
+  after-store cells h e =
+      byBool (eqb (o .object) object)
+      (λ t. rw (le-ltb object 8 h, own t e, t) (byBool (eqb (o .kind) 9) (λ u. rw u) (λ u. rw u)))
+      (λ t. rw t e)
 
 module _ (line : ℕ → Op) where
   -- a register holds the nearest write, whatever the key
-  pub register-nearest : (n object key : ℕ) → object < 8 → afterAll atStart (firstOps line n) object ≡ register (valueOf (nearest line object key n))
+  pub register-nearest : (n object key : ℕ) → object < 8
+      → afterAll atStart (firstOps line n) object ≡ register (valueOf (nearest line object key n))
   unfolding firstOps nearest
   register-nearest zero object key h = rw (lt-ltb object 8 h)
   register-nearest (suc n) object key h =
       ap (λ f. f object) (afterAll-snoc atStart (firstOps line n) (line n))
-      ∙ after-register (afterAll atStart (firstOps line n)) (line n) object key (nearest line object key n) h (register-nearest n object key h)
+      ∙ after-register (afterAll atStart (firstOps line n)) (line n) object key (nearest line object key n) h
+      (register-nearest n object key h)
 
   -- a store holds at each key the nearest put of that key
   pub store-nearest : (n object : ℕ) → 8 ≤ object → afterAll atStart (firstOps line n) object ≡ store (λ key. nearest line object key n)

@@ -213,7 +213,8 @@ index-start line =
     }
 
 -- one answer more
-answers-snoc : (cs : ℕ → Content) (os : List Op) (o : Op) → answersFrom cs (os ++ o ∷ []) ≡ answersFrom cs os ++ apply o (afterAll cs os (o .object)) .0 ∷ []
+answers-snoc : (cs : ℕ → Content) (os : List Op) (o : Op)
+    → answersFrom cs (os ++ o ∷ []) ≡ answersFrom cs os ++ apply o (afterAll cs os (o .object)) .0 ∷ []
 answers-snoc cs [] o = refl
 answers-snoc cs (x ∷ os) o = ap (λ vs. apply x (cs (x .object)) .0 ∷ vs) (answers-snoc (after cs x) os o)
 
@@ -228,9 +229,11 @@ answers-length line (suc n) =
     ap length (answers-snoc atStart (firstOps line n) (line n))
     ∙ length-append (answersFrom atStart (firstOps line n)) _ ∙ omega (arith, answers-length line n)
 
-pub answers-next : (line : ℕ → Op) (n : ℕ) (l out : List ℕ) (v : ℕ) → out ≡ sets l 0 (answersFrom atStart (firstOps line n)) → v ≡ answerAt line n
+pub answers-next : (line : ℕ → Op) (n : ℕ) (l out : List ℕ) (v : ℕ)
+    → out ≡ sets l 0 (answersFrom atStart (firstOps line n)) → v ≡ answerAt line n
     → set out n v ≡ sets l 0 (answersFrom atStart (firstOps line (n + 1)))
 unfolding firstOps
 answers-next line n l out v d e =
     let z : 0 + length (answersFrom atStart (firstOps line n)) ≡ n = omega (arith, answers-length line n) in
-    rw (add-one, answers-snoc atStart (firstOps line n) (line n), sets-snoc l 0 (answersFrom atStart (firstOps line n)) (answerAt line n), z, d, e)
+    let w = answersFrom atStart (firstOps line n) in
+    rw (add-one, answers-snoc atStart (firstOps line n) (line n), sets-snoc l 0 w (answerAt line n), z, d, e)

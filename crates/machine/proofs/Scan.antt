@@ -38,7 +38,8 @@ module _ (t : List Program) (m k line : ℕ) (h : k < m) where
     unfolding programs
     bad-body l i = rw (more, e, i)
 
-    pub next-program : (l : ℕ) → bodyOf (getD t k noProgram) (line + 1) ≡ fine l → programs (m - k) t k line ≡ programs (m - (k + 1)) t (k + 1) l
+    pub next-program : (l : ℕ) → bodyOf (getD t k noProgram) (line + 1) ≡ fine l
+        → programs (m - k) t k line ≡ programs (m - (k + 1)) t (k + 1) l
     unfolding programs
     next-program l i = rw (more, e, i)
 

@@ -21,10 +21,13 @@ module _ (limit : ℕ) (table : List Program) (p : Process) (h : p .done < limit
   abbrev marked : List ℕ
   marked = p .path ++ (p .at % 64) ∷ []
 
-  next : (m : List ℕ) (x : Act) → does ≡ effect m x → gone limit table p
-      ≡ behindAll marked (follow x m (p .at % 64 + 1) (p .done + 1) (λ n to. advanceOf limit (codeAt limit table (p .prog)) n to (p .done + 1)))
+  -- what follows an instruction that came to x
+  abbrev rest : Act → List ℕ → Advanced
+  rest x m = follow x m (p .at % 64 + 1) (p .done + 1) (λ n to. advanceOf limit (codeAt limit table (p .prog)) n to (p .done + 1))
+
+  next : (m : List ℕ) (x : Act) → does ≡ effect m x → gone limit table p ≡ behindAll marked (rest x m)
   next m x e =
-      let r = follow x m (p .at % 64 + 1) (p .done + 1) (λ n to. advanceOf limit (codeAt limit table (p .prog)) n to (p .done + 1)) in
+      let r = rest x m in
       ap (behindAll (p .path)) (one limit (codeAt limit table (p .prog)) (p .locals) (p .at) (p .done) h m x e)
       ∙ ap (advanced (r .locals) (r .stop)) (sym (append-snoc (p .path) (p .at % 64) (r .path)))
 

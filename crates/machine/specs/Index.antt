@@ -1,6 +1,6 @@
--- The objects held in arrays, as the lines of a log leave them one after the other: the registers' values, and for the stores an index of the
--- puts. The index has a chain for each bucket of keys, the latest put first: its head, and for each put the one before it. Lines on a chain
--- count from 1, and 0 ends it. That the arrays hold what `apply` leaves is a law; here is what is done to them, whatever they hold.
+-- The objects held in arrays, as the lines of a log leave them one after the other: the registers' values, and for the stores an index of
+-- the puts. The index has a chain for each bucket of keys, the latest put first: its head, and for each put the one before it. Lines on a
+-- chain count from 1, and 0 ends it. That the arrays hold what `apply` leaves is a law (`passed`); here is what is done to any arrays.
 use Prim.Native.Nat.{ℕ, zero, suc, _+_, _*_, _%_}
 use mathlib.Core.Bool.{cond, _&&_}
 use mathlib.Core.List.{List}

@@ -145,7 +145,8 @@ pub fn perform(
 
 // The answers of the first n lines, at most 1,024, to the front of `out`.
 pub fn answers(logs: &[u64; 6144], n: usize, out: &mut [u64; 1024])
-    ensures { λ _. ⌜ now (out .exit) ≡ sets (now (out .entry)) 0 (answersFrom atStart (firstOps (opAt (now (logs .entry))) (min n 1024))) ⌝ }
+    ensures { λ _. ⌜ now (out .exit)
+        ≡ sets (now (out .entry)) 0 (answersFrom atStart (firstOps (opAt (now (logs .entry))) (min n 1024))) ⌝ }
 {
     let count = least(n, 1024);
     let mut registers = [0u64; 8];

@@ -50,7 +50,8 @@ pub fn advance(
     path: &mut [u8],
     limit: usize,
 ) -> Stop
-    ensures { λ r. ⌜ advanced (now (l .exit)) r (now (path .exit)) ≡ inBuffer (now (path .entry)) done (advanceOf limit (p .code) (now (l .entry)) at done) ⌝ }
+    ensures { λ r. ⌜ advanced (now (l .exit)) r (now (path .exit))
+        ≡ inBuffer (now (path .entry)) done (advanceOf limit (p .code) (now (l .entry)) at done) ⌝ }
 {
     let mut at = at;
     let mut done = done;

@@ -18,7 +18,9 @@ returns-2 c = λ n. rw (c .before .before .before .match .keys2) (cc)
 returns-3 : tie.Need-returns-3
 unfolding effectAs
 returns-3 c = λ n.
-    let e : c .wrapping-sub-u64 .result ≡ (c .before .before .local-at3 .result + (2 ^ 64 - c .before .local-at4 .result)) % 2 ^ 64 = omega arith in
+    let x = c .before .before .local-at3 .result in
+    let y = c .before .local-at4 .result in
+    let e : c .wrapping-sub-u64 .result ≡ (x + (2 ^ 64 - y)) % 2 ^ 64 = omega arith in
     rw (c .before .before .before .match .keys3, e, c .before .before .local-at3 .ensures, c .before .local-at4 .ensures)
 
 returns-4 : tie.Need-returns-4

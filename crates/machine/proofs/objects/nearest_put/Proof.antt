@@ -9,7 +9,8 @@ use Rattle.machine.proofs.objects.nearest_put.Statement.{statement}
 use Rattle.machine.proofs.objects.nearest_put.Tie as tie
 
 abbrev Inv-loop : tie.InvT-loop
-Inv-loop logs befores from object key j₀ left₀ j left = walk (opAt logs) befores object key left j ≡ walk (opAt logs) befores object key 1024 from
+Inv-loop logs befores from object key j₀ left₀ j left =
+    walk (opAt logs) befores object key left j ≡ walk (opAt logs) befores object key 1024 from
 
 abbrev μ-loop : tie.MeasureT-loop
 μ-loop logs befores from object key j₀ left₀ j left = left
@@ -20,24 +21,23 @@ loop-holds c = refl
 returns : tie.Need-returns Inv-loop μ-loop
 returns c =
     let h = c .before .before in
-    let a = h .before .args in
-    sym (sym (h .loop .inv) ∙ walk-end (opAt (a .logs .now)) (a .befores .now) (a .object) (a .key) (h .loop .left) (h .loop .j) (c .before .loop-test .taken) (c .if1 .taken))
+    sym (sym (h .loop .inv) ∙ walk-end _ _ _ _ _ _ (c .before .loop-test .taken) (c .if1 .taken))
 
 returns-2 : tie.Need-returns-2 Inv-loop μ-loop
 returns-2 c =
     let h = c .before .before .before .before .before in
-    let a = h .before .args in
     sym
     (sym (h .loop .inv)
-    ∙ walk-hit (opAt (a .logs .now)) (a .befores .now) (a .object) (a .key) (h .loop .left) (h .loop .j) (c .before .before .before .before .loop-test .taken) (c .before .before .before .if1 .left) _ (c .before .before .op-at .ensures) (sym (c .before .is-at .ensures) ∙ c .if2 .taken))
+    ∙ walk-hit _ _ _ _ _ _ (c .before .before .before .before .loop-test .taken) (c .before .before .before .if1 .left) _
+    (c .before .before .op-at .ensures) (sym (c .before .is-at .ensures) ∙ c .if2 .taken))
 
 loop-again : tie.Need-loop-again Inv-loop μ-loop
 loop-again c =
     let h = c .before .before .before .before .before .before .before in
-    let a = h .before .args in
     rw (c .wide .ensures)
     (sym
-    (walk-on (opAt (a .logs .now)) (a .befores .now) (a .object) (a .key) (h .loop .left) (h .loop .j) (c .before .before .before .before .before .before .loop-test .taken) (c .before .before .before .before .before .if1 .left) _ (c .before .before .before .before .op-at .ensures)
+    (walk-on _ _ _ _ _ _ (c .before .before .before .before .before .before .loop-test .taken) (c .before .before .before .before .before .if1 .left) _
+    (c .before .before .before .before .op-at .ensures)
     (sym (c .before .before .before .is-at .ensures) ∙ c .before .before .if2 .left))
     ∙ h .loop .inv)
 

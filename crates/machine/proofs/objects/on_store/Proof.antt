@@ -9,7 +9,13 @@ returns c = rw (eq-eqb _ _ (c .if1 .taken), c .before .before .before .bucket .e
 
 returns-2 : tie.Need-returns-2
 returns-2 c =
-    rw (ne-eqb _ _ (c .before .before .before .before .if1 .left), c .value-of .ensures, c .before .nearest-put .ensures, c .before .before .wide .ensures, c .before .before .before .before .before .before .before .bucket .ensures)
+    rw (
+      ne-eqb _ _ (c .before .before .before .before .if1 .left),
+      c .value-of .ensures,
+      c .before .nearest-put .ensures,
+      c .before .before .wide .ensures,
+      c .before .before .before .before .before .before .before .bucket .ensures,
+    )
 
 pub on-store-spec : {M : Type 1} → statement M
 on-store-spec =

@@ -26,7 +26,8 @@ loop-again c =
     let a = h .before .before .args in (
       search needs,
       marked (a .limit) (a .t1 .code) (h .loop .l) (h .loop .at) (h .loop .done) (h .loop .path) (omega arith) _ _ _ _
-          (c .before .before .before .before .before .before .before .mark .ensures) (c .before .before .before .carry-out .ensures) (c .before .act .given .1)
+          (c .before .before .before .before .before .before .before .mark .ensures)
+          (c .before .before .before .carry-out .ensures) (c .before .act .given .1)
           ∙ h .loop .inv .1,
     )
 
@@ -35,7 +36,8 @@ returns c =
     let h = c .before .before .before .before .before .before .before .before .before .before .before in
     let a = h .before .before .args in
     marked (a .limit) (a .t1 .code) (h .loop .l) (h .loop .at) (h .loop .done) (h .loop .path) (omega arith) _ _ _ _
-    (c .before .before .before .before .before .before .before .mark .ensures) (c .before .before .before .carry-out .ensures) (c .before .act2 .given .1)
+    (c .before .before .before .before .before .before .before .mark .ensures)
+    (c .before .before .before .carry-out .ensures) (c .before .act2 .given .1)
     ∙ h .loop .inv .1
 
 returns-2 : tie.Need-returns-2 Inv-loop μ-loop
@@ -43,7 +45,8 @@ returns-2 c =
     let h = c .before .before .before .before .before .before .before .before .before .before .before in
     let a = h .before .before .args in
     marked (a .limit) (a .t1 .code) (h .loop .l) (h .loop .at) (h .loop .done) (h .loop .path) (omega arith) _ _ _ _
-    (c .before .before .before .before .before .before .before .mark .ensures) (c .before .before .before .carry-out .ensures) (c .before .act3 .given .1)
+    (c .before .before .before .before .before .before .before .mark .ensures)
+    (c .before .before .before .carry-out .ensures) (c .before .act3 .given .1)
     ∙ h .loop .inv .1
 
 returns-3 : tie.Need-returns-3 Inv-loop μ-loop

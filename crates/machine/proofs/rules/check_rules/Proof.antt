@@ -1,5 +1,5 @@
--- `check_rules` meets its contract. Both invariants: the definition at what is left gives what it gives for all; a program has 65 lines at most,
--- so that the line does not wrap.
+-- `check_rules` meets its contract. Both invariants: the definition at what is left gives what it gives for all; a program has 65 lines at
+-- most, so that the line does not wrap.
 use Prim.Native.Nat.{_≤_, _+_, _-_, _*_}
 use mathlib.Core.Path.{_≡_, sym, ap, _∙_}
 use mathlib.Core.Bool.{true}
@@ -32,7 +32,8 @@ abbrev μ-table : tie.MeasureT-table
 abbrev program : tie.Else1 Inv-loop μ-loop Inv-table μ-table → Program
 program c = getD (c .before .before .before .before .before .before .args .t1 .table) (c .before .before .before .before .table .k) noProgram
 
-head : (c : tie.Else1 Inv-loop μ-loop Inv-table μ-table) → headKeeps (program c .number) (program c .n) (c .before .before .before .before .table .k) ≡ true
+head : (c : tie.Else1 Inv-loop μ-loop Inv-table μ-table)
+    → headKeeps (program c .number) (program c .n) (c .before .before .before .before .table .k) ≡ true
 head c = sym (c .before .head-keeps .ensures) ∙ not-false _ (c .if1 .left)
 
 few : (c : tie.Else1 Inv-loop μ-loop Inv-table μ-table) → program c .n ≤ 64

@@ -12,10 +12,21 @@ returns-2 : tie.Need-returns-2
 returns-2 c = rw (lt-ltb _ _ (c .before .before .before .if1 .left), sym (c .before .fits2 .ensures) ∙ not-true _ (c .if2 .taken))
 
 returns-3 : tie.Need-returns-3
-returns-3 c = rw (lt-ltb _ _ (c .before .before .before .before .before .if1 .left), sym (c .before .before .before .fits2 .ensures) ∙ not-false _ (c .before .before .if2 .left), sym (c .before .fits3 .ensures) ∙ not-true _ (c .if3 .taken))
+returns-3 c =
+    rw (
+      lt-ltb _ _ (c .before .before .before .before .before .if1 .left),
+      sym (c .before .before .before .fits2 .ensures) ∙ not-false _ (c .before .before .if2 .left),
+      sym (c .before .fits3 .ensures) ∙ not-true _ (c .if3 .taken),
+    )
 
 returns-4 : tie.Need-returns-4
-returns-4 c = rw (c .fits4 .ensures, lt-ltb _ _ (c .before .before .before .before .before .before .if1 .left), sym (c .before .before .before .before .fits2 .ensures) ∙ not-false _ (c .before .before .before .if2 .left), sym (c .before .before .fits3 .ensures) ∙ not-false _ (c .before .if3 .left))
+returns-4 c =
+    rw (
+      c .fits4 .ensures,
+      lt-ltb _ _ (c .before .before .before .before .before .before .if1 .left),
+      sym (c .before .before .before .before .fits2 .ensures) ∙ not-false _ (c .before .before .before .if2 .left),
+      sym (c .before .before .fits3 .ensures) ∙ not-false _ (c .before .if3 .left),
+    )
 
 pub keeps-spec : {M : Type 1} → statement M
 keeps-spec =
