@@ -1,7 +1,7 @@
 -- The machine meets what the host's half of demand 3 asks of one: operations name objects below 16, fields stay below 2^64, and a request
 -- has at most as many operations as its limit has instructions.
 use Prim.Native.Nat.{ℕ, zero, suc, _+_, _-_, _%_, _^_, _≤_, _<_}
-use mathlib.Core.Path.{_≡_, refl, sym, subst}
+use mathlib.Core.Path.{_≡_, refl, subst}
 use mathlib.Core.Bool.{Bool, true, false, cond}
 use mathlib.Core.List.{List, [], _∷_}
 use native.Mathlib.Omega.{arith}
@@ -12,18 +12,16 @@ use Rattle.text.specs.declared.programs.Program.{Program}
 use Rattle.text.specs.declared.report.Op.{Op}
 use Rattle.model.specs.Machine.{op, stop}
 use Rattle.model.specs.Bounds.{Within, Bounded}
-use Rattle.machine.specs.declared.objects.Cell.{Cell}
-use Rattle.machine.specs.declared.objects.Cell.the-variants.{Never, Put}
+use Rattle.machine.specs.declared.objects.Cell.the-variants.{Put}
 use Rattle.machine.specs.declared.instructions.Act.{Act}
 use Rattle.machine.specs.declared.instructions.Act.the-variants.{Goes, Asks, Replies}
 use Rattle.machine.specs.declared.processes.Next.{Next}
 use Rattle.machine.specs.declared.processes.Next.the-variants.{Operation, Reply, Cut}
 use Rattle.machine.specs.Codes.{Code, reply, constant, add, subtract, less, jump, read, write, get, put, other, codeOf}
-use Rattle.machine.specs.Instructions.{Effect, effectAs, effectOf, local, bit}
+use Rattle.machine.specs.Instructions.{Effect, effectAs, effectOf, local}
 use Rattle.machine.specs.Processes.{Advanced, behind, follow, go, instrAt, resumed}
 use Rattle.machine.specs.Objects.{Content, register, store, reads, apply, isWrite, written, valueOf}
 use Rattle.machine.specs.Instance.{Process, machine, nextOf, intoOf, codeAt, gone}
-use Rattle.machine.proofs.Tests.{byBool}
 
 -- anything from equal constructors that differ
 clash : {P : Type 0} → _≡_ {A = ℕ} 0 1 → P

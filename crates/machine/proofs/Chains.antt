@@ -6,9 +6,8 @@ use mathlib.Core.List.{List}
 use native.Mathlib.Omega.{arith}
 use lib.Dec.{eqb, ltb}
 use lib.ListN.{getD}
-use borrow.Author.Tests.{lt-ltb, le-ltb, eqb-true, eq-eqb, ltb-false}
+use borrow.Author.Tests.{le-ltb, eqb-true, eq-eqb}
 use Rattle.text.specs.declared.report.Op.{Op}
-use Rattle.machine.specs.declared.objects.Cell.{Cell}
 use Rattle.machine.specs.declared.objects.Cell.the-variants.{Never, Put}
 use Rattle.machine.specs.Logs.{nearest, writes}
 use Rattle.machine.specs.Objects.{isRegister}

@@ -1,14 +1,14 @@
 -- What the lines of a log leave in an object is the nearest write above: the scope's rule for a read.
 use Prim.Native.Nat.{ℕ, zero, suc, _≤_, _<_}
-use mathlib.Core.Path.{_≡_, refl, sym, ap, _∙_}
+use mathlib.Core.Path.{_≡_, refl, ap, _∙_}
 use mathlib.Core.Bool.{Bool, true, false, cond}
 use mathlib.Core.List.{List, [], _∷_, _++_}
-use lib.Dec.{eqb}
-use borrow.Author.Tests.{lt-ltb, le-ltb, eqb-true}
+use lib.Dec.{eqb, ltb}
+use borrow.Author.Tests.{lt-ltb, le-ltb, ltb-true, ltb-false, eqb-true}
 use Rattle.text.specs.declared.report.Op.{Op}
 use Rattle.machine.specs.declared.objects.Cell.{Cell}
 use Rattle.machine.specs.declared.objects.Cell.the-variants.{Put}
-use Rattle.machine.specs.Objects.{Content, register, store, atStart, valueOf}
+use Rattle.machine.specs.Objects.{Content, register, store, atStart, valueOf, reads}
 use Rattle.machine.specs.Logs.{firstOps, after, afterAll, nearest, writes}
 use Rattle.machine.proofs.Tests.{byBool}
 
@@ -55,3 +55,10 @@ module _ (line : ℕ → Op) where
   store-nearest (suc n) object h =
       ap (λ f. f object) (afterAll-snoc atStart (firstOps line n) (line n))
       ∙ after-store (afterAll atStart (firstOps line n)) (line n) object (λ key. nearest line object key n) h (store-nearest n object h)
+
+  -- A read takes the value of the nearest earlier write of its object, of a store at the same key, or 0.
+  pub read-nearest : (n object key : ℕ) → reads (afterAll atStart (firstOps line n) object) key ≡ valueOf (nearest line object key n)
+  read-nearest n object key =
+      byBool (ltb object 8)
+      (λ t. ap (λ c. reads c key) (register-nearest n object key (ltb-true object 8 t)))
+      (λ t. ap (λ c. reads c key) (store-nearest n object (ltb-false object 8 t)))

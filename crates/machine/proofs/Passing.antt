@@ -1,7 +1,7 @@
 -- Laws of the forward pass over a log: what line n, which is x, does to the registers and to the index, and its answer.
 use Prim.Native.Nat.{ℕ, zero, suc, _+_, _%_, _≤_, _<_}
 use mathlib.Core.Path.{_≡_, refl, sym, ap, _∙_, subst}
-use mathlib.Core.Bool.{Bool, true, false, cond, _&&_, not}
+use mathlib.Core.Bool.{Bool, true, false, cond}
 use mathlib.Core.List.{List, [], _∷_, _++_}
 use native.Mathlib.Omega.{arith}
 use native.Mathlib.Numerals.{add-one}
@@ -14,7 +14,7 @@ use Rattle.machine.specs.declared.objects.Cell.{Cell}
 use Rattle.machine.specs.declared.objects.Cell.the-variants.{Put}
 use Rattle.machine.specs.Objects.{Content, register, reads, apply, valueOf, atStart}
 use Rattle.machine.specs.Logs.{nearest, writes, firstOps, after, afterAll, answersFrom}
-use Rattle.machine.specs.Index.{bucketOf, walk, registerLeft, stored, onStore, Performed, performOf}
+use Rattle.machine.specs.Index.{bucketOf, walk, registerLeft, Performed, performOf}
 use Rattle.machine.proofs.Tests.{byBool}
 use Rattle.machine.proofs.Nearest.{register-nearest, store-nearest}
 use Rattle.machine.proofs.Chains.{putsIn, lastPut, Chained, lastPut-le, lastPut-put, nearest-last, walk-nearest}

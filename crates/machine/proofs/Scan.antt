@@ -1,8 +1,8 @@
 -- Laws of the scan of the program rules: what one line does to it.
 use Prim.Native.Nat.{ℕ, suc, _+_, _-_, _<_, _≤_}
-use mathlib.Core.Path.{_≡_, refl}
+use mathlib.Core.Path.{_≡_}
 use mathlib.Core.List.{List}
-use mathlib.Core.Bool.{Bool, true, false, not, _&&_}
+use mathlib.Core.Bool.{true, false, not, _&&_}
 use native.Mathlib.Omega.{arith}
 use lib.Dec.{leb, eqb}
 use lib.ListN.{getD}
@@ -11,7 +11,7 @@ use Rattle.text.specs.declared.programs.Instr.{Instr}
 use Rattle.text.specs.declared.programs.Program.{Program}
 use Rattle.machine.specs.Processes.{halt}
 use Rattle.machine.proofs.Tests.{second}
-use Rattle.machine.specs.Rules.{Scan, bad, fine, instructions, programs, bodyOf, bodyKeeps, headKeeps, noProgram}
+use Rattle.machine.specs.Rules.{bad, fine, instructions, programs, bodyOf, bodyKeeps, headKeeps, noProgram}
 
 module _ (p : List Instr) (n j line : ℕ) (h : j < n) where
   left : n - j ≡ suc (n - (j + 1))

@@ -1,7 +1,7 @@
 -- What each instruction does to the locals of a request, and what it comes to.
 use Prim.Native.Nat.{ℕ, _+_, _-_, _%_, _^_}
 use mathlib.Core.List.{List}
-use mathlib.Core.Bool.{Bool, true, false, cond}
+use mathlib.Core.Bool.{Bool, cond}
 use lib.ListN.{getD, set}
 use lib.Dec.{ltb, eqb}
 use Rattle.text.specs.declared.programs.Instr.{Instr}

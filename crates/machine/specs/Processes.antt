@@ -11,7 +11,7 @@ use Rattle.machine.specs.declared.instructions.Act.the-variants.{Goes, A
 use Rattle.machine.specs.declared.processes.Next.{Next}
 use Rattle.machine.specs.declared.processes.Next.the-variants.{Operation, Reply, Cut}
 use Rattle.machine.specs.declared.processes.Stop.{Stop}
-use Rattle.machine.specs.Instructions.{Effect, effectOf}
+use Rattle.machine.specs.Instructions.{effectOf}
 
 -- the locals of a request with inputs a and b
 abbrev pub firstLocals : ℕ → ℕ → List ℕ

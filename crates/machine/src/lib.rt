@@ -1,5 +1,5 @@
 // The machine: the program rules, one instruction, a request from operation to operation, and the objects.
-pub mod codes;
+mod codes;
 mod instructions;
 mod objects;
 mod processes;

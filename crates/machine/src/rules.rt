@@ -3,9 +3,7 @@ use crate::least;
 use text::Instr;
 use text::Programs;
 ghost use mathlib.Core.Path.{_≡_};
-ghost use mathlib.Core.Bool.{cond, true, false};
-ghost use Prim.Native.Nat.{_+_, _<_, min};
-ghost use lib.Dec.{ltb, leb, eqb};
+ghost use Prim.Native.Nat.{_<_, min};
 ghost use Rattle.machine.specs.Rules.{fitsAs, keepsFields, headKeeps, bodyKeeps, rulingOf};
 
 // What a field of an instruction names.
