@@ -20,7 +20,7 @@ use Rattle.machine.specs.declared.processes.Next.the-variants.{Operation
 use Rattle.machine.specs.Codes.{Code, reply, constant, add, subtract, less, jump, read, write, get, put, other, codeOf}
 use Rattle.machine.specs.Instructions.{Effect, effectAs, effectOf, local}
 use Rattle.machine.specs.Processes.{Advanced, behind, follow, go, instrAt, resumed}
-use Rattle.machine.specs.Objects.{Content, register, store, reads, apply, isWrite, written, valueOf}
+use Rattle.machine.specs.Objects.{Content, register, store, reads, apply, changes, written, valueOf}
 use Rattle.machine.specs.Instance.{Process, machine, nextOf, intoOf, codeAt, gone}
 
 -- anything from equal constructors that differ
@@ -28,7 +28,7 @@ clash : {P : Type 0} → _≡_ {A = ℕ} 0 1 → P
 clash e = absurd (omega arith)
 
 -- numbers of 64 bits
-abbrev Word : ℕ → Type 0
+abbrev pub Word : ℕ → Type 0
 Word n = n < 2 ^ 64
 
 abbrev Words : List ℕ → Type 0
@@ -128,8 +128,8 @@ near other l i n = (tt, tt)
 pub within : (limit : ℕ) (table : List Program) → Within (machine limit table) 16
 within limit table p o e =
     let d = operation (gone limit table p .stop .next) o e in
-    let g = goes (λ l. Unit {0}) (λ o. o .object < 16) (λ v. Unit {0}) (limit - p .done) (codeAt limit table (p .prog))
-    (λ l at n h. near (codeOf (instrAt (codeAt limit table (p .prog)) at .code)) l _ n) (p .locals) (p .at) (p .done) tt in
+    let g = goes (λ l. Unit {0}) (λ o. o .object < 16) (λ v. Unit {0}) (limit - p .done) (codeAt table (p .prog))
+    (λ l at n h. near (codeOf (instrAt (codeAt table (p .prog)) at .code)) l _ n) (p .locals) (p .at) (p .done) tt in
     subst (FitNext (λ l. Unit {0}) (λ o. o .object < 16) (λ v. Unit {0})) (d .1) (g .next-fit)
 
 -- fields stay below 2^64
@@ -170,7 +170,7 @@ module _ (o : Op) (w : Word (o .value)) where
       by false = h key
 
   left-fit : (c : Content) → FitContent c → FitContent (apply o c .1)
-  left-fit c h = by (isWrite o c)
+  left-fit c h = by (changes o c)
     where
       by : (b : Bool) → FitContent (cond b (written o c) c)
       by true = written-fit c h
@@ -184,11 +184,11 @@ words-resumed l into v h w = by (ltb into 8)
     by false = h
 
 -- a constant, as every field, is a number of 64 bits
-module _ (limit : ℕ) (table : List Program) (words : (prog at : ℕ) → Word (instrAt (codeAt limit table prog) at .b)) where
+module _ (limit : ℕ) (table : List Program) (words : (prog at : ℕ) → Word (instrAt (codeAt table prog) at .b)) where
   went : (p : Process) → Words (p .locals) → FitAdvanced Words FitOp Word (limit - p .done) (p .done) (gone limit table p)
   went p h =
-      let g = goes Words FitOp Word (limit - p .done) (codeAt limit table (p .prog))
-      (λ l at n k. fits l (instrAt (codeAt limit table (p .prog)) at) n k (words (p .prog) at) _ refl) (p .locals) (p .at) (p .done) h in
+      let g = goes Words FitOp Word (limit - p .done) (codeAt table (p .prog))
+      (λ l at n k. fits l (instrAt (codeAt table (p .prog)) at) n k (words (p .prog) at) _ refl) (p .locals) (p .at) (p .done) h in
       record { locals-fit = g .locals-fit; next-fit = g .next-fit; counted = g .counted }
 
   operates : (n : ℕ) (p : Process) (o : Op) (c : Content) → (limit - p .done ≤ n) × Words (p .locals) → machine limit table .advance p ≡ op o
@@ -209,7 +209,7 @@ module _ (limit : ℕ) (table : List Program) (words : (prog at : ℕ) → Word 
           (
             omega arith,
             words-resumed (r .locals) (intoOf (r .stop .next)) (apply o c .0) (g .locals-fit)
-                (word-cond (isWrite o c) 0 (reads c (o .key)) (omega arith) (h (o .key))),
+                (word-cond (changes o c) 0 (reads c (o .key)) (omega arith) (h (o .key))),
           ),
         ),
       )

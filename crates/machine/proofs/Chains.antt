@@ -10,13 +10,13 @@ use borrow.Author.Tests.{le-ltb, eqb-true, eq-eqb}
 use Rattle.text.specs.declared.report.Op.{Op}
 use Rattle.machine.specs.declared.objects.Cell.the-variants.{Never, Put}
 use Rattle.machine.specs.Logs.{nearest, writes}
-use Rattle.machine.specs.Objects.{isRegister}
+use Rattle.machine.specs.Objects.{isRegister, isPut}
 use Rattle.machine.specs.Index.{bucketOf, walk}
 use Rattle.machine.proofs.Tests.{byBool, first, second}
 
 -- whether a line is a put of a bucket
 abbrev pub putsIn : (bucket : ℕ) → Op → Bool
-putsIn b o = not (isRegister (o .object)) && (eqb (o .kind) 9 && eqb (bucketOf (o .object) (o .key)) b)
+putsIn b o = not (isRegister (o .object)) && (isPut o && eqb (bucketOf (o .object) (o .key)) b)
 
 -- the last put of a bucket above line n
 unfoldable pub lastPut : (ℕ → Op) → (bucket n : ℕ) → ℕ

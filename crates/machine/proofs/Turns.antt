@@ -16,19 +16,19 @@ use Rattle.machine.proofs.Steps.{one}
 module _ (limit : ℕ) (table : List Program) (p : Process) (h : p .done < limit) where
   -- the process's next instruction
   abbrev does : Effect
-  does = effectOf (p .locals) (instrAt (codeAt limit table (p .prog)) (p .at)) (p .at % 64 + 1)
+  does = effectOf (p .locals) (instrAt (codeAt table (p .prog)) (p .at)) (p .at % 64 + 1)
 
   abbrev marked : List ℕ
   marked = p .path ++ (p .at % 64) ∷ []
 
   -- what follows an instruction that came to x
   abbrev rest : Act → List ℕ → Advanced
-  rest x m = follow x m (p .at % 64 + 1) (p .done + 1) (λ n to. advanceOf limit (codeAt limit table (p .prog)) n to (p .done + 1))
+  rest x m = follow x m (p .at % 64 + 1) (p .done + 1) (λ n to. advanceOf limit (codeAt table (p .prog)) n to (p .done + 1))
 
   next : (m : List ℕ) (x : Act) → does ≡ effect m x → gone limit table p ≡ behindAll marked (rest x m)
   next m x e =
       let r = rest x m in
-      ap (behindAll (p .path)) (one limit (codeAt limit table (p .prog)) (p .locals) (p .at) (p .done) h m x e)
+      ap (behindAll (p .path)) (one limit (codeAt table (p .prog)) (p .locals) (p .at) (p .done) h m x e)
       ∙ ap (advanced (r .locals) (r .stop)) (sym (append-snoc (p .path) (p .at % 64) (r .path)))
 
   pub moved : (m : List ℕ) (to : ℕ) → does ≡ effect m (Goes to)

@@ -9,7 +9,7 @@ use lib.ListN.{getD, set}
 use Rattle.text.specs.declared.report.Op.{Op}
 use Rattle.machine.specs.declared.objects.Cell.{Cell}
 use Rattle.machine.specs.declared.objects.Cell.the-variants.{Never, Put}
-use Rattle.machine.specs.Objects.{register, reads, apply, isRegister, valueOf}
+use Rattle.machine.specs.Objects.{register, reads, apply, isRegister, isPut, valueOf}
 
 -- the bucket of a store's key, below 1,016
 abbrev pub bucketOf : (object key : ℕ) → ℕ
@@ -39,7 +39,7 @@ stored v hs bs = record { answer = v; heads = hs; befores = bs }
 -- line n, which is x, on a store: a put becomes the head of its bucket's chain; anything else reads
 abbrev pub onStore : (ℕ → Op) → ℕ → Op → (heads befores : List ℕ) → Stored
 onStore line n x hs bs =
-    cond (eqb (x .kind) 9)
+    cond (isPut x)
     (stored 0 (set hs (bucketOf (x .object) (x .key)) (n % 1024 + 1)) (set bs (n % 1024) (getD hs (bucketOf (x .object) (x .key)) 0)))
     (stored (valueOf (walk line bs (x .object) (x .key) 1024 (getD hs (bucketOf (x .object) (x .key)) 0))) hs bs)
 

@@ -9,6 +9,7 @@ use Rattle.model.specs.Machine.{Machine, op, stop}
 use Rattle.model.specs.Machine as model
 use Rattle.machine.specs.declared.processes.Next.{Next}
 use Rattle.machine.specs.declared.processes.Next.the-variants.{Operation, Reply, Cut}
+use Rattle.machine.specs.Instructions.{noLocal}
 use Rattle.machine.specs.Processes.{Advanced, advanced, firstLocals, advanceOf, resumed}
 use Rattle.machine.specs.Rules.{noProgram}
 use Rattle.machine.specs.Objects.{Content, apply, logged}
@@ -30,30 +31,32 @@ nextOf Cut = stop 1 0
 -- the local for the answer
 abbrev pub intoOf : Next → ℕ
 intoOf (Operation o into) = into
-intoOf (Reply v) = 8
-intoOf Cut = 8
+intoOf (Reply v) = noLocal
+intoOf Cut = noLocal
 
 -- positions carried out before
 abbrev pub behindAll : List ℕ → Advanced → Advanced
 behindAll path r = advanced (r .locals) (r .stop) (path ++ r .path)
 
-module _ (limit : ℕ) (table : List Program) where
-  abbrev pub codeAt : ℕ → List Instr
-  codeAt prog = getD table prog noProgram .code
+-- the instructions of a program of the table
+abbrev pub codeAt : List Program → ℕ → List Instr
+codeAt table prog = getD table prog noProgram .code
 
+-- a process of a program that has gone on to an operation, with the answer v
+abbrev pub resumedWith : (prog v : ℕ) → Advanced → Process
+resumedWith prog v r =
+    record {
+      prog = prog;
+      locals = resumed (r .locals) (intoOf (r .stop .next)) v;
+      at = r .stop .at;
+      done = r .stop .done;
+      path = r .path;
+    }
+
+module _ (limit : ℕ) (table : List Program) where
   -- the request gone on, with its whole path
   abbrev pub gone : Process → Advanced
-  gone p = behindAll (p .path) (advanceOf limit (codeAt (p .prog)) (p .locals) (p .at) (p .done))
-
-  abbrev pub resumedWith : ℕ → ℕ → Advanced → Process
-  resumedWith prog v r =
-      record {
-        prog = prog;
-        locals = resumed (r .locals) (intoOf (r .stop .next)) v;
-        at = r .stop .at;
-        done = r .stop .done;
-        path = r .path;
-      }
+  gone p = behindAll (p .path) (advanceOf limit (codeAt table (p .prog)) (p .locals) (p .at) (p .done))
 
   abbrev pub machine : Machine
   machine =

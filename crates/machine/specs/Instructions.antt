@@ -29,25 +29,29 @@ abbrev pub effect : List ℕ → Act → Effect
 effect l x = record { locals = l; act = x }
 
 -- local a becomes v, and the request goes on at n
-abbrev pub sets : List ℕ → Instr → ℕ → ℕ → Effect
-sets l i v n = effect (assign l (i .a) v) (Goes n)
+abbrev pub becomes : List ℕ → Instr → ℕ → ℕ → Effect
+becomes l i v n = effect (assign l (i .a) v) (Goes n)
 
--- an operation, whose kind is the code, and the local for its answer, 8 where it takes none
+-- stands for the local of an answer where an operation takes none
+abbrev pub noLocal : ℕ
+noLocal = 8
+
+-- an operation, whose kind is the code, and the local for its answer
 abbrev pub asks : List ℕ → Instr → (object key value into : ℕ) → Effect
 asks l i object key value into = effect l (Asks (record { object = object % 16; kind = i .code; key = key; value = value }) into)
 
 -- each code's action on the locals l, where n is the position behind the instruction
 unfoldable pub effectAs : Code → List ℕ → Instr → ℕ → Effect
 effectAs reply l i n = effect l (Replies (local l (i .a)))
-effectAs constant l i n = sets l i (i .b) n
-effectAs add l i n = sets l i ((local l (i .b) + local l (i .c)) % 2 ^ 64) n
-effectAs subtract l i n = sets l i ((local l (i .b) + (2 ^ 64 - local l (i .c))) % 2 ^ 64) n
-effectAs less l i n = sets l i (bit (ltb (local l (i .b)) (local l (i .c)))) n
+effectAs constant l i n = becomes l i (i .b) n
+effectAs add l i n = becomes l i ((local l (i .b) + local l (i .c)) % 2 ^ 64) n
+effectAs subtract l i n = becomes l i ((local l (i .b) + (2 ^ 64 - local l (i .c))) % 2 ^ 64) n
+effectAs less l i n = becomes l i (bit (ltb (local l (i .b)) (local l (i .c)))) n
 effectAs jump l i n = effect l (Goes (cond (eqb (local l (i .a)) 0) n (i .b)))
 effectAs read l i n = asks l i (i .b) 0 0 (i .a % 8)
-effectAs write l i n = asks l i (i .a) 0 (local l (i .b)) 8
+effectAs write l i n = asks l i (i .a) 0 (local l (i .b)) noLocal
 effectAs get l i n = asks l i (i .b) (local l (i .c)) 0 (i .a % 8)
-effectAs put l i n = asks l i (i .a) (local l (i .b)) (local l (i .c)) 8
+effectAs put l i n = asks l i (i .a) (local l (i .b)) (local l (i .c)) noLocal
 effectAs other l i n = effect l (Goes n)
 
 abbrev pub effectOf : List ℕ → Instr → ℕ → Effect

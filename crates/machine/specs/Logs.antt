@@ -7,7 +7,7 @@ use lib.ListN.{getD}
 use Rattle.text.specs.declared.report.Op.{Op}
 use Rattle.machine.specs.declared.objects.Cell.{Cell}
 use Rattle.machine.specs.declared.objects.Cell.the-variants.{Never, Put}
-use Rattle.machine.specs.Objects.{Content, apply, isRegister}
+use Rattle.machine.specs.Objects.{Content, apply, isRegister, isWrite, isPut}
 
 -- The operation of line i, where the lines stand as rows of six numbers: object, rid, num, kind, key, value.
 -- There is room for 1,024 of them, and i counts modulo that.
@@ -38,9 +38,9 @@ abbrev pub answersFrom : (ℕ → Content) → List Op → List ℕ
 answersFrom cs [] = []
 answersFrom cs (o ∷ os) = apply o (cs (o .object)) .0 ∷ answersFrom (after cs o) os
 
--- whether a line is a write of an object (of a store, at the key): kind 7 on a register, whatever its key, or kind 9 on a store
+-- whether a line is a write of an object, of a store at the key: one of kind 7 on a register, whatever its key, or of kind 9 on a store
 abbrev pub writes : (object key : ℕ) → Op → Bool
-writes object key o = eqb (o .object) object && cond (isRegister object) (eqb (o .kind) 7) (eqb (o .kind) 9 && eqb (o .key) key)
+writes object key o = eqb (o .object) object && cond (isRegister object) (isWrite o) (isPut o && eqb (o .key) key)
 
 -- the nearest write above line n
 unfoldable pub nearest : (ℕ → Op) → (object key n : ℕ) → Cell

@@ -29,18 +29,24 @@ abbrev pub reads : Content → (key : ℕ) → ℕ
 reads (register v) key = v
 reads (store cells) key = valueOf (cells key)
 
--- kind 7 writes a register, kind 9 a store; nothing else writes
-abbrev pub isWrite : Op → Content → Bool
-isWrite o (register v) = eqb (o .kind) 7
-isWrite o (store cells) = eqb (o .kind) 9
+-- kind 7 writes a register, kind 9 puts into a store; nothing else changes an object
+abbrev pub isWrite : Op → Bool
+isWrite o = eqb (o .kind) 7
+
+abbrev pub isPut : Op → Bool
+isPut o = eqb (o .kind) 9
+
+abbrev pub changes : Op → Content → Bool
+changes o (register v) = isWrite o
+changes o (store cells) = isPut o
 
 abbrev pub written : Op → Content → Content
 written o (register v) = register (o .value)
 written o (store cells) = store (λ key. cond (eqb (o .key) key) (Put (o .value)) (cells key))
 
--- an operation's answer, 0 for a write, and what it leaves
+-- an operation's answer, 0 where it changes its object, and what it leaves
 abbrev pub apply : Op → Content → ℕ × Content
-apply o c = (cond (isWrite o c) 0 (reads c (o .key)), cond (isWrite o c) (written o c) c)
+apply o c = (cond (changes o c) 0 (reads c (o .key)), cond (changes o c) (written o c) c)
 
 -- the value field of an operation's log line, given its answer
 abbrev pub logged : Op → ℕ → ℕ

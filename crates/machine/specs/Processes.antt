@@ -11,7 +11,7 @@ use Rattle.machine.specs.declared.instructions.Act.the-variants.{Goes, A
 use Rattle.machine.specs.declared.processes.Next.{Next}
 use Rattle.machine.specs.declared.processes.Next.the-variants.{Operation, Reply, Cut}
 use Rattle.machine.specs.declared.processes.Stop.{Stop}
-use Rattle.machine.specs.Instructions.{effectOf}
+use Rattle.machine.specs.Instructions.{effectOf, noLocal}
 
 -- the locals of a request with inputs a and b
 abbrev pub firstLocals : ℕ → ℕ → List ℕ
@@ -63,10 +63,10 @@ go (suc k) p l at done =
 abbrev pub advanceOf : (limit : ℕ) → List Instr → List ℕ → (at done : ℕ) → Advanced
 advanceOf limit p l at done = go (limit - done) p l at done
 
--- the answer v of an operation goes into its local; 8 is none
-abbrev pub resumed : List ℕ → ℕ → ℕ → List ℕ
-resumed l into v = cond (ltb into 8) (set l into v) l
-
 -- the same with the path kept in a buffer, behind the `done` positions that stand there, as far as there is room
 abbrev pub inBuffer : List ℕ → ℕ → Advanced → Advanced
 inBuffer b done r = advanced (r .locals) (r .stop) (sets b done (r .path))
+
+-- the answer v of an operation goes into its local, if it has one
+abbrev pub resumed : List ℕ → (into v : ℕ) → List ℕ
+resumed l into v = cond (ltb into noLocal) (set l into v) l
