@@ -14,7 +14,7 @@ use Rattle.machine.specs.declared.objects.Cell.{Cell}
 use Rattle.machine.specs.declared.objects.Cell.the-variants.{Put}
 use Rattle.machine.specs.Objects.{Content, register, reads, apply, valueOf, atStart}
 use Rattle.machine.specs.Logs.{nearest, writes, firstOps, after, afterAll, answersFrom}
-use Rattle.machine.specs.Index.{bucketOf, walk, registerLeft, Performed, performOf}
+use Rattle.machine.specs.Index.{bucketOf, walk, registerLeft, stored, Performed, performed, performOf}
 use Rattle.machine.proofs.Tests.{byBool}
 use Rattle.machine.proofs.Nearest.{register-nearest, store-nearest}
 use Rattle.machine.proofs.Chains.{putsIn, lastPut, Chained, lastPut-le, lastPut-put, nearest-last, walk-nearest}
@@ -193,9 +193,9 @@ performs line n registers heads befores r g i =
     }))))
 
 -- the same of the arrays that the code has made
-pub passed : (line : ℕ → Op) (n : ℕ) (registers heads befores : List ℕ) (p : Performed) → p ≡ performOf line n registers heads befores
-    → n < 1024 → Registers line n registers → Indexed line n heads befores → Passed line n p
-passed line n registers heads befores p e r g i = subst (Passed line n) (sym e) (performs line n registers heads befores r g i)
+module _ (line : ℕ → Op) (n : ℕ) (rs hs bs rs′ hs′ bs′ : List ℕ) (v : ℕ) (e : performed rs′ (stored v hs′ bs′) ≡ performOf line n rs hs bs) where
+  pub passed : n < 1024 → Registers line n rs → Indexed line n hs bs → Passed line n (performed rs′ (stored v hs′ bs′))
+  passed r g i = subst (Passed line n) (sym e) (performs line n rs hs bs r g i)
 
 -- before the first line
 pub registers-start : (line : ℕ → Op) → Registers line 0 (replicate 8 0)

@@ -1,5 +1,6 @@
--- Laws of a process: one instruction takes it on, or stops it. A loop that carries out instructions keeps `gone` of its process by them.
-use Prim.Native.Nat.{ℕ, _+_, _%_, _<_}
+-- Laws of a process: one instruction takes it on, or stops it, and at its limit it is cut. A loop that carries out instructions keeps `gone`
+-- of its process by them.
+use Prim.Native.Nat.{ℕ, _+_, _%_, _≤_, _<_}
 use mathlib.Core.Path.{_≡_, sym, ap, _∙_}
 use mathlib.Core.List.{List, [], _∷_, _++_, append-nil}
 use lib.Seq.{append-snoc}
@@ -7,11 +8,11 @@ use Rattle.text.specs.declared.programs.Program.{Program}
 use Rattle.text.specs.declared.report.Op.{Op}
 use Rattle.machine.specs.declared.instructions.Act.{Act}
 use Rattle.machine.specs.declared.instructions.Act.the-variants.{Goes, Asks, Replies}
-use Rattle.machine.specs.declared.processes.Next.the-variants.{Operation, Reply}
+use Rattle.machine.specs.declared.processes.Next.the-variants.{Operation, Reply, Cut}
 use Rattle.machine.specs.Instructions.{Effect, effect, effectOf}
 use Rattle.machine.specs.Processes.{Advanced, advanced, follow, stopAt, instrAt, advanceOf}
 use Rattle.machine.specs.Instance.{Process, behindAll, codeAt, gone}
-use Rattle.machine.proofs.Steps.{one}
+use Rattle.machine.proofs.Steps.{one, cut}
 
 module _ (limit : ℕ) (table : List Program) (p : Process) (h : p .done < limit) where
   -- the process's next instruction
@@ -42,3 +43,9 @@ module _ (limit : ℕ) (table : List Program) (p : Process) (h : p .done < limit
   pub replied : (m : List ℕ) (v : ℕ) → does ≡ effect m (Replies v)
       → gone limit table p ≡ advanced m (stopAt (p .at % 64 + 1) (p .done + 1) (Reply v)) marked
   replied m v e = next m (Replies v) e ∙ ap (advanced m (stopAt (p .at % 64 + 1) (p .done + 1) (Reply v))) (append-nil marked)
+
+pub cut-off : (limit : ℕ) (table : List Program) (p : Process) → limit ≤ p .done
+    → gone limit table p ≡ advanced (p .locals) (stopAt (p .at) (p .done) Cut) (p .path)
+cut-off limit table p h =
+    ap (behindAll (p .path)) (cut limit (codeAt table (p .prog)) (p .locals) (p .at) (p .done) h)
+    ∙ ap (advanced (p .locals) (stopAt (p .at) (p .done) Cut)) (append-nil (p .path))

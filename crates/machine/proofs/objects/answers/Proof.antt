@@ -25,8 +25,14 @@ loop-holds c = (omega arith, registers-start _, index-start _, refl)
 loop-again : tie.Need-loop-again Inv-loop μ-loop
 loop-again c =
     let h = c .before .before .before .before .before in
-    let p = passed _ _ _ _ _ _ (c .perform .ensures) (omega arith) (h .loop .inv .1) (h .loop .inv .2) in
-    (omega arith, p .registers, p .index, answers-next _ _ _ _ _ (h .loop .inv .3) (p .answers))
+    let line = opAt (h .before .before .args .logs .now) in
+    let p = passed line (h .loop .i) (h .loop .registers) (h .loop .heads) (h .loop .befores) _ _ _ _ (c .perform .ensures)
+    (omega arith) (h .loop .inv .1) (h .loop .inv .2) in (
+      omega arith,
+      p .registers,
+      p .index,
+      answers-next line (h .loop .i) (h .before .before .args .out .now) (h .loop .out) (c .perform .result) (h .loop .inv .3) (p .answers),
+    )
 
 returns : tie.Need-returns Inv-loop μ-loop
 returns c =

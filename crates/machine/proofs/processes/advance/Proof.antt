@@ -1,10 +1,10 @@
 -- `advance` meets its contract. The invariant: the definition at where the request stands gives what it gives at the start.
-use mathlib.Core.Path.{_≡_, refl, _∙_}
+use mathlib.Core.Path.{_≡_, refl, sym, ap, _∙_}
 use native.Mathlib.Omega.{arith}
 use Prim.Native.Nat.{_-_}
 use lib.ListN.{length}
-use Rattle.machine.specs.Processes.{advanceOf, inBuffer, go}
-use Rattle.machine.proofs.Steps.{marked}
+use Rattle.machine.specs.Processes.{advanceOf, inBuffer}
+use Rattle.machine.proofs.Steps.{marked, cut}
 use borrow.Author.Needs.{needs}
 use Rattle.machine.proofs.processes.advance.Statement.{statement}
 use Rattle.machine.proofs.processes.advance.Tie as tie
@@ -50,10 +50,9 @@ returns-2 c =
     ∙ h .loop .inv .1
 
 returns-3 : tie.Need-returns-3 Inv-loop μ-loop
-unfolding go
 returns-3 c =
-    let z : c .before .before .before .args .limit - c .before .loop .done ≡ 0 = omega arith in
-    rw z at (c .before .loop .inv .1)
+    let h = c .before in
+    sym (ap (inBuffer (h .loop .path) (h .loop .done)) (cut _ _ _ _ _ (c .loop-test .left))) ∙ h .loop .inv .1
 
 pub advance-spec : {M : Type 1} → statement M
 advance-spec =
