@@ -1,1 +1,13 @@
-// Decimal numbers and lines: reading and writing.
+// Decimal numbers and lines: reading at a place of a text, and writing to the front of a lent buffer.
+mod lines;
+mod numbers;
+mod writer;
+
+pub use lines::Place;
+pub use lines::line_at;
+pub use writer::Fields;
+pub use writer::Put;
+pub use writer::numbers_width;
+pub use writer::put_line;
+pub use writer::put_number;
+pub use writer::written;

@@ -1,7 +1,7 @@
 -- The lines still to come in a run are claimed as the replays look them up: each line at the content that its object will hold then.
 use mathlib.Core.Bool.{true, false}
 use mathlib.Core.List.{List, [], _∷_}
-use mathlib.Core.Path.{_≡_, refl, ap, _∙_}
+use mathlib.Core.Path.{_≡_, ap, _∙_}
 use Prim.Native.Nat.{ℕ, suc}
 use lib.Dec.{eqb}
 use Rattle.text.specs.declared.report.Entry.{Entry}
@@ -9,10 +9,10 @@ use Rattle.text.specs.declared.report.Op.{Op}
 use Rattle.ordering.specs.Maps.{upd}
 use Rattle.ordering.proofs.Basics.{clash, byBool, same-or, and-true, yes-eqb, eqb-self, upd-same, upd-other}
 use Rattle.model.specs.Batch.{logOf, claims, claimed}
-use Rattle.model.specs.Machine.{Machine, shown}
+use Rattle.model.specs.Machine.{Machine, shown, applied}
 use Rattle.model.specs.Nodes.{Node, ln}
 use Rattle.model.specs.PlainRun.{State, lineNow, operated}
-use Rattle.model.specs.Replay.{Claim, by, claim, write}
+use Rattle.model.specs.Replay.{Claim, by, claim}
 use Rattle.model.proofs.Claims.{Unique}
 use Rattle.model.proofs.Nodes.{linesOf}
 
@@ -52,7 +52,7 @@ module _ (M : Machine) where
   foretold-log F [] c u h o = tt
   foretold-log F (l ∷ ls) c u h o =
       let after = apply (l .op) (c (l .op .object)) .1 in
-      let ih = foretold-log F ls (write M c (l .op)) (u .1) others in
+      let ih = foretold-log F ls (applied M c (l .op)) (u .1) others in
       same-or (λ o. Foretold M F (c o) (logOf o (l ∷ ls))) (l .op .object) o
       (rw (eqb-self (l .op .object)) (here, rw (upd-same c (l .op .object) after) at (ih (l .op .object))))
       (λ n e. rw e (rw (upd-other c after n) at (ih o)))
@@ -60,7 +60,7 @@ module _ (M : Machine) where
       here : F (l .rid) (l .num) ≡ by l (c (l .op .object))
       here = h (l .rid) (l .num) (rw (eqb-self (l .rid), eqb-self (l .num))) ∙ rw (eqb-self (l .rid), eqb-self (l .num))
 
-      others : (r k : ℕ) → claimed ls r k ≡ true → F r k ≡ claim M ls (write M c (l .op)) r k
+      others : (r k : ℕ) → claimed ls r k ≡ true → F r k ≡ claim M ls (applied M c (l .op)) r k
       others r k e = byBool (claims r k l)
           (λ d.
           let g = and-true (eqb (l .rid) r) (eqb (l .num) k) d in

@@ -1,18 +1,18 @@
 -- Rows 7 and 8 as facts of `of` and `log` lines.
-use mathlib.Core.Bool.{Bool, true, false, _&&_, _||_, not}
+use mathlib.Core.Bool.{true, false, _||_, not}
 use mathlib.Core.List.{List, [], _∷_, List·Memᴰ, List·Memᴰ·head, List·Memᴰ·tail}
 use mathlib.Core.Logic.{_≢_, _↔_}
 use mathlib.Core.Option.{none}
 use mathlib.Core.Path.{_≡_, refl, sym, subst, _∙_}
 use Prim.Native.Nat.{ℕ, zero, suc, _≤_}
-use borrow.Author.Tests.{ltb-true, ltb-false}
+use borrow.Author.Tests.{ltb-false, le-ltb}
 use lib.Dec.{eqb, ltb}
 use lib.ListN.{length}
 use native.Mathlib.Omega.{arith}
 use Rattle.text.specs.declared.report.Entry.{Entry}
 use Rattle.text.specs.declared.report.Of.{Of}
 use Rattle.ordering.specs.Lists.{All}
-use Rattle.ordering.proofs.Basics.{clash, byBool, byEq, and-true, no-eqb, eqb-yes, eqb-no}
+use Rattle.ordering.proofs.Basics.{byBool, byEq, and-true, no-eqb, eqb-yes, eqb-no}
 use Rattle.ordering.proofs.Lists.{all-any}
 use Rattle.model.specs.Audit.{bad7, row7, allClaimed, bad8, row8}
 use Rattle.model.specs.Batch.{Batch, named, countOf, claims, claimed}
@@ -93,9 +93,7 @@ module _ (ofs : List Of) where
   counted7 past (l ∷ ls) r u f =
       let n : named ofs (l .rid) ≡ true = counted-named ofs (l .rid) (omega (arith, r .0 .low, r .0 .high)) in
       let z : eqb (l .num) 0 ≡ false = eqb-no {a = l .num} {b = 0} (λ i. omega (arith, r .0 .low)) in
-      let c : ltb (countOf ofs (l .rid)) (l .num) ≡ false = byBool (ltb (countOf ofs (l .rid)) (l .num))
-      (λ d. absurd (omega (arith, ltb-true (countOf ofs (l .rid)) (l .num) d, r .0 .high)))
-      (λ d. d) in
+      let c : ltb (countOf ofs (l .rid)) (l .num) ≡ false = le-ltb (countOf ofs (l .rid)) (l .num) (r .0 .high) in
       (rw (n, z, c, f .0), counted7 (l ∷ past) ls (r .1) (u .1) (unique-fresh l past ls (u .0) (f .1)))
 
 -- ── row 8 ──

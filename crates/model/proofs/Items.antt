@@ -6,7 +6,6 @@ use mathlib.Core.List.{
   _∷_,
   _++_,
   map,
-  map-append,
   List·Memᴰ,
   List·Memᴰ·head,
   List·Memᴰ·tail,
@@ -26,15 +25,14 @@ use native.Mathlib.Omega.{arith}
 use Rattle.text.specs.declared.report.Entry.{Entry}
 use Rattle.text.specs.declared.trace.Event.the-variants.{Request, Response}
 use Rattle.text.specs.declared.trace.Event.{Event}
-use Rattle.ordering.specs.Before.{Follows}
 use Rattle.ordering.specs.Lists.{All, tally, Later}
-use Rattle.ordering.specs.Order.{onLane}
 use Rattle.ordering.specs.Whole.{keyed, Whole}
 use Rattle.ordering.proofs.Basics.{clash, byBool, byEq, and-true, yes-eqb, eqb-no}
 use Rattle.ordering.proofs.Lists.{mem-all, tally-append}
 use Rattle.model.specs.Batch.{Batch, requested, answered, countOf, claims, claimed}
 use Rattle.model.specs.Nodes.{Node, ev, ln, lane, rid, num, nodes}
-use Rattle.model.proofs.Claims.{Counted, Unique, Reported, counted-mem}
+use Rattle.model.proofs.Claims.{Counted, Unique, Full, Reported, counted-mem}
+use Rattle.model.proofs.Mapped.{later-map}
 use Rattle.model.proofs.Nodes.{nodes-events}
 use Rattle.model.proofs.Requests.{OfRequest, request-of, Named, events-named, ofs-counted}
 use Rattle.model.proofs.Trace.{InOrder, Formed}
@@ -166,25 +164,21 @@ answered-later past (e ∷ es) r prog x y s v o m k =
     at (inl i) (inl j) ih = clash (cc)
     at (inl i) (inr k) ih =
         let h = split-at es (Response r s v) k in
-        record { front = []; between = h .front; back = h .back; split = ap (λ e. e ∷ es) (sym i) ∙ ap (λ t. Request r prog x y ∷ t) (h .split) }
+        record {
+          front = [];
+          between = h .front;
+          back = h .back;
+          split = ap (λ e. e ∷ es) (sym i) ∙ ap (λ t. Request r prog x y ∷ t) (h .split);
+        }
     at (inr m) (inl j) ih =
         let o′ : InOrder past (Response r s v ∷ es) = subst (λ e. InOrder past (e ∷ es)) (sym j) o in
         let a : requested r past ≡ true = o′ .0 in
-        let n : requested r past ≡ false =
-        unrequested past e r (not-yet (e ∷ past) es r prog x y (in-order-tail past e es o) m) in
+        let later = not-yet (e ∷ past) es r prog x y (in-order-tail past e es o) m in
+        let n : requested r past ≡ false = unrequested past e r later in
         clash (cc)
     at (inr m) (inr k) ih =
         let h = ih m k in
         record { front = e ∷ h .front; between = h .between; back = h .back; split = ap (λ t. e ∷ t) (h .split) }
-
-later-map : {A B : Type 0} (f : A → B) (xs : List A) (y x : A) → Later xs y x → Later (map f xs) (f y) (f x)
-later-map f xs y x l = record {
-  front = map f (l .front);
-  between = map f (l .between);
-  back = map f (l .back);
-  split = ap (map f) (l .split) ∙ map-append f (l .front) (y ∷ (l .between ++ x ∷ l .back))
-      ∙ ap (λ t. map f (l .front) ++ f y ∷ t) (map-append f (l .between) (x ∷ l .back));
-}
 
 -- ── an item and the one before it ──
 claimed-line : (ls : List Entry) (r k : ℕ) → claimed ls r k ≡ true → (l : Entry) × List·Memᴰ l ls × (l .rid ≡ r) × (l .num ≡ k)
@@ -230,9 +224,9 @@ module _ (b : Batch) (f : Formed b) (h : Reported b) where
       (request-of (λ r. Standing r 0) (b .trace) (b .ofs) (f .matching) (request-mem (OfRequest (λ r. Standing r 0)) (b .trace)
       (λ r p x y m. (ev (Request r p x y), in-trace b (Request r p x y) m, refl, refl)) (λ r s v. tt))) (n .1))
   standing r n (suc k) l =
-      let full = mem-all (λ x. (k : ℕ) → 1 ≤ k → k ≤ x .count → claimed (b .log) (x .rid) k ≡ true) (h .full) (n .1) in
-      let q = claimed-line (b .log) (n .0 .rid) (suc k)
-      (full (suc k) (omega arith) (omega (arith, ofs-counted b f (n .0) (n .1), ap cnt (n .2)))) in
+      let full = mem-all (Full (b .log)) (h .full) (n .1) in
+      let i : suc k ≤ n .0 .count = omega (arith, ofs-counted b f (n .0) (n .1), ap cnt (n .2)) in
+      let q = claimed-line (b .log) (n .0 .rid) (suc k) (full (suc k) (omega arith) i) in
       (ln (q .0), in-log b (q .0) (q .1), q .2 ∙ n .2, q .3)
 
   line-counted : (l : Entry) → List·Memᴰ l (b .log) → Counted cnt l
@@ -262,8 +256,8 @@ module _ (b : Batch) (f : Formed b) (h : Reported b) where
       event (Request r′ prog p q) i n = absurd (omega arith)
       event (Response r′ s′ v′) i n = absurd (omega (arith, ap cnt i))
 
-  behind : (e g : Event) → List·Memᴰ e (b .trace) → List·Memᴰ g (b .trace) → rid (ev e) ≡ rid (ev g) → suc (num cnt (ev e)) ≡ num cnt (ev g) →
-      Later (b .trace) e g
+  behind : (e g : Event) → List·Memᴰ e (b .trace) → List·Memᴰ g (b .trace) → rid (ev e) ≡ rid (ev g) →
+      suc (num cnt (ev e)) ≡ num cnt (ev g) → Later (b .trace) e g
   behind (Request r prog p q) (Request r′ prog′ p′ q′) m k i n = absurd (omega arith)
   behind (Request r prog p q) (Response r′ s v) m k i n =
       subst (λ z. List·Memᴰ (Response z s v) (b .trace) → Later (b .trace) (Request r prog p q) (Response z s v)) i

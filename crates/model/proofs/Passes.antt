@@ -51,8 +51,9 @@ module _ (M : Machine) (opening : ℕ → M .Content) (b : Batch) where
   clear-passed : (n : ℕ) (xs : List Of) → All Clear (replayChecks M opening b n xs) → All Passed xs
   clear-passed n [] h = tt
   clear-passed n (x ∷ xs) h =
-      let p = clear-along n (outcome M opening b (x .rid)) (outcome M opening b (firstOf (b .ofs) (x .group)))
-      (responseOf (b .trace) (x .rid)) (h .0) (h .1 .0) (h .1 .1 .0) in
+      let first = outcome M opening b (firstOf (b .ofs) (x .group)) in
+      let reply = responseOf (b .trace) (x .rid) in
+      let p = clear-along n (outcome M opening b (x .rid)) first reply (h .0) (h .1 .0) (h .1 .1 .0) in
       (record { path = p .0; replayed = p .1; grouped = p .2 }, clear-passed (suc n) xs (h .1 .1 .1))
 
   passed-clear : (n : ℕ) (xs : List Of) → All Passed xs → All Clear (replayChecks M opening b n xs)

@@ -1,7 +1,7 @@
--- 01's "comes before" on a batch is the ordering's on its items; so row 9 holds exactly when a chain of it returns to its start.
-use mathlib.Core.List.{List, [], _∷_, _++_, map, map-append, List·Memᴰ}
+-- "Comes before" on a batch is the ordering's on its items; so row 9 holds exactly when a chain of it returns to its start.
+use mathlib.Core.List.{List, [], map, List·Memᴰ}
 use mathlib.Core.Logic.{_≢_, inl, inr, _↔_}
-use mathlib.Core.Path.{_≡_, refl, sym, ap, subst, subst₂, _∙_}
+use mathlib.Core.Path.{_≡_, refl, sym, ap, subst, subst₂}
 use Prim.Native.Nat.{ℕ, suc}
 use native.Mathlib.Omega.{arith}
 use Rattle.text.specs.declared.report.Entry.{Entry}
@@ -10,7 +10,6 @@ use Rattle.text.specs.declared.trace.Event.{Event}
 use Rattle.ordering.specs.Before.{Before, Follows}
 use Rattle.ordering.specs.Chain.{one, Cycle}
 use Rattle.ordering.specs.Lists.{Neighbours}
-use Rattle.ordering.proofs.Basics.{clash}
 use Rattle.ordering.proofs.Chains.{cycle-map}
 use Rattle.ordering.proofs.Cycles.{merge-cycle}
 use Rattle.ordering.proofs.Lists.{mem-all}
@@ -19,49 +18,9 @@ use Rattle.model.specs.Nodes.{Node, ev, ln, lane, rid, num, nodes, merge
 use Rattle.model.specs.Precedes.{Precedes, events, first, then, last, logged, Returns}
 use Rattle.model.proofs.Claims.{Counted, Reported}
 use Rattle.model.proofs.Items.{Source, source, in-log, in-trace, whole}
+use Rattle.model.proofs.Mapped.{Images, neighbours-map, neighbours-unmap}
 use Rattle.model.proofs.Nodes.{nodes-events, nodes-lines}
 use Rattle.model.proofs.Trace.{Formed}
-
--- two values of f that come from arguments of which T holds
-pub record Images {A B : Type 0} (f : A → B) (T : A → A → Type 0) (y x : B) : Type 0 where
-  pub source : A
-  pub target : A
-  pub left : f source ≡ y
-  pub right : f target ≡ x
-  pub holds : T source target
-
-module _ {A B : Type 0} (f : A → B) where
-  neighbours-map : (xs : List A) (y x : A) → Neighbours xs y x → Neighbours (map f xs) (f y) (f x)
-  neighbours-map xs y x n = record {
-    front = map f (n .front);
-    back = map f (n .back);
-    split = ap (map f) (n .split) ∙ map-append f (n .front) (y ∷ x ∷ n .back);
-  }
-
-  further : (a : A) (xs : List A) (y x : B) → Images f (Neighbours xs) y x → Images f (Neighbours (a ∷ xs)) y x
-  further a xs y x h = record {
-    source = h .source;
-    target = h .target;
-    left = h .left;
-    right = h .right;
-    holds = record { front = a ∷ h .holds .front; back = h .holds .back; split = ap (λ t. a ∷ t) (h .holds .split) };
-  }
-
-  split-map : (xs : List A) (y x : B) (p q : List B) → map f xs ≡ p ++ y ∷ x ∷ q → Images f (Neighbours xs) y x
-  split-map [] y x [] q e = clash (cc)
-  split-map [] y x (z ∷ p) q e = clash (cc)
-  split-map (a ∷ []) y x [] q e = clash (cc)
-  split-map (a ∷ c ∷ xs) y x [] q e = record {
-    source = a;
-    target = c;
-    left = cc;
-    right = cc;
-    holds = record { front = []; back = xs; split = refl };
-  }
-  split-map (a ∷ xs) y x (z ∷ p) q e = further a xs y x (split-map xs y x p q (let e′ : map f xs ≡ p ++ y ∷ x ∷ q = cc in e′))
-
-  neighbours-unmap : (xs : List A) (y x : B) → Neighbours (map f xs) y x → Images f (Neighbours xs) y x
-  neighbours-unmap xs y x n = split-map xs y x (n .front) (n .back) (n .split)
 
 -- a rule for events and one for nodes that agree
 pub record Agree (b : Batch) (T : List Event → Event → Event → Type 0) (U : List Node → Node → Node → Type 0) : Type 0 where

@@ -22,7 +22,8 @@ abbrev pub OfRequest : (ℕ → Type 0) → Event → Type 0
 OfRequest P (Request r prog a b) = P r
 OfRequest P (Response r s v) = Unit {0}
 
-requested-no : (q r prog a b : ℕ) (past : List Event) → requested q (Request r prog a b ∷ past) ≡ false → (r ≢ q) × (requested q past ≡ false)
+requested-no : (q r prog a b : ℕ) (past : List Event) → requested q (Request r prog a b ∷ past) ≡ false →
+    (r ≢ q) × (requested q past ≡ false)
 requested-no q r prog a b past e = byEq r q (λ p d. let e′ = rw d at e in clash (cc)) (λ p d. (p, rw d at e))
 
 answered-no : (q r s v : ℕ) (past : List Event) → answered q (Response r s v ∷ past) ≡ false → (r ≢ q) × (answered q past ≡ false)

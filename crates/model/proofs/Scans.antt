@@ -1,12 +1,12 @@
 -- A scan that finds nothing, and a list of checks none of which finds a fault.
 use mathlib.Core.Bool.{Bool, true, false, _||_, not}
 use mathlib.Core.List.{List, [], _∷_, _++_}
-use mathlib.Core.Logic.{_≢_}
 use mathlib.Core.Option.{none, some}
 use mathlib.Core.Path.{_≡_, refl}
 use Prim.Native.Nat.{ℕ, suc}
+use lib.Dec.{eqb}
 use Rattle.ordering.specs.Lists.{All}
-use Rattle.ordering.proofs.Basics.{clash, byBool}
+use Rattle.ordering.proofs.Basics.{clash, byBool, no-eqb}
 use Rattle.model.specs.Checks.{Check, check, firstFault, firstBad}
 
 pub false-or : (a b : Bool) → (a || b) ≡ false → (a ≡ false) × (b ≡ false)
@@ -38,7 +38,7 @@ abbrev pub Clear : Check → Type 0
 Clear (check k o) = o ≡ none
 
 abbrev pub NotRow : ℕ → Check → Type 0
-NotRow n (check k o) = k ≢ n
+NotRow n (check k o) = eqb k n ≡ false
 
 pub clear-fault : (cs ds : List Check) → All Clear cs → firstFault (cs ++ ds) ≡ firstFault ds
 clear-fault [] ds h = refl
@@ -50,4 +50,4 @@ pub fault-clear : (n : ℕ) (cs ds : List Check) → All (NotRow n) cs → first
     All Clear cs × (firstFault ds .number ≡ n)
 fault-clear n [] ds h e = (tt, e)
 fault-clear n (check k none ∷ cs) ds h e = let g = fault-clear n cs ds (h .1) e in ((refl, g .0), g .1)
-fault-clear n (check k (some l) ∷ cs) ds h e = absurd (h .0 e)
+fault-clear n (check k (some l) ∷ cs) ds h e = absurd (no-eqb (h .0) e)

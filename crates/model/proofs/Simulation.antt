@@ -1,5 +1,5 @@
 -- An order of items each of whose requests replays as claimed is a run: acyclicity gives only the order, the replays give everything else.
-use mathlib.Core.List.{List, [], _∷_, _++_, map, append-nil, append-assoc}
+use mathlib.Core.List.{List, [], _∷_, _++_, map, append-nil}
 use mathlib.Core.Option.{some}
 use mathlib.Core.Path.{_≡_, refl, sym, ap, subst, _∙_}
 use Prim.Native.Nat.{ℕ, zero, suc, _+_, _≤_}
@@ -10,7 +10,7 @@ use Rattle.text.specs.declared.trace.Event.the-variants.{Request, Response}
 use Rattle.ordering.specs.Lists.{All}
 use Rattle.ordering.specs.Maps.{upd}
 use Rattle.ordering.specs.Order.{bump, Numbered}
-use Rattle.ordering.proofs.Basics.{clash, byBool, byEq, same-or, eqb-self, upd-same, upd-other}
+use Rattle.ordering.proofs.Basics.{clash, byBool, byEq, eqb-self, upd-same, upd-other}
 use Rattle.ordering.proofs.Numbers.{bump-same, bump-other, reached}
 use Rattle.model.specs.Machine.{Next, op, stop, Machine, shown}
 use Rattle.model.specs.Nodes.{Node, ev, ln, itemOf, rid, num}
@@ -46,6 +46,7 @@ use Rattle.model.specs.Replay.{
 use Rattle.model.proofs.Ahead.{Ahead, ahead-next}
 use Rattle.model.proofs.Equal.{same-op}
 use Rattle.model.proofs.Nodes.{linesOf}
+use Rattle.model.proofs.Runs.{joined}
 
 -- F: the claims; count, rep, out: each request's count, its response, and the outcome of its replay
 module _ (M : Machine) (F : ℕ → ℕ → Claim M) (count : ℕ → ℕ) (rep : ℕ → Reply) (out : ℕ → Outcome) where
@@ -79,7 +80,8 @@ module _ (M : Machine) (F : ℕ → ℕ → Claim M) (count : ℕ → ℕ) (rep 
     pub logs : (o : ℕ) → final .logs o ≡ s .logs o ++ linesOf o ys
 
   abbrev pub Simulated : List Node → Type 0
-  Simulated ys = (stage : ℕ → ℕ) (s : State M) → Numbered rid (num count) stage ys → All Replayed ys → Invariant stage s ys → Carried stage s ys
+  Simulated ys = (stage : ℕ → ℕ) (s : State M) → Numbered rid (num count) stage ys → All Replayed ys → Invariant stage s ys →
+      Carried stage s ys
 
   fits-upd : (stage : ℕ → ℕ) (phase : ℕ → Phase M) (r : ℕ) (f : Phase M) → ((q : ℕ) → Fits q (stage q) (phase q)) →
       Fits r (suc (stage r)) f → (q : ℕ) → Fits q (bump stage r q) (upd phase r f q)
@@ -104,21 +106,21 @@ module _ (M : Machine) (F : ℕ → ℕ → Claim M) (count : ℕ → ℕ) (rep 
       at (stop t′ v′) e = (cc, cc)
 
   -- with an operation left it did the one that is claimed
-  record Did (f : ℕ → Claim M) (b : Reply) (n k : ℕ) (p : Process) (x : Next) (d : Outcome) : Type 0 where
-    pub did : Op
-    pub got : ℕ
-    pub next : x ≡ op did
-    pub compared : compare M did (f k) ≡ right got
-    pub then : replay M f b n (suc k) (resume p got) (advance (resume p got)) ≡ d
+  record Does (f : ℕ → Claim M) (b : Reply) (n k : ℕ) (p : Process) (x : Next) (d : Outcome) : Type 0 where
+    pub operation : Op
+    pub answer : ℕ
+    pub next : x ≡ op operation
+    pub compared : compare M operation (f k) ≡ right answer
+    pub then : replay M f b n (suc k) (resume p answer) (advance (resume p answer)) ≡ d
 
-  did-next : {a : Reply} {w : List ℕ} (f : ℕ → Claim M) (b : Reply) (n k : ℕ) (p : Process) (x : Next) →
-      replay M f b (suc n) k p x ≡ ended a w → Did f b n k p x (ended a w)
-  did-next {a} {w} f b n k p (op o) e = at (compare M o (f k)) refl
+  does-next : {a : Reply} {w : List ℕ} (f : ℕ → Claim M) (b : Reply) (n k : ℕ) (p : Process) (x : Next) →
+      replay M f b (suc n) k p x ≡ ended a w → Does f b n k p x (ended a w)
+  does-next {a} {w} f b n k p (op o) e = at (compare M o (f k)) refl
     where
-      at : (z : Answer) → compare M o (f k) ≡ z → Did f b n k p (op o) (ended a w)
+      at : (z : Answer) → compare M o (f k) ≡ z → Does f b n k p (op o) (ended a w)
       at wrong c = let e′ = rw (c, replay) at e in clash (cc)
-      at (right v) c = record { did = o; got = v; next = refl; compared = c; then = rw (c, replay) at e }
-  did-next f b n k p (stop t′ v′) e = clash (cc)
+      at (right v) c = record { operation = o; answer = v; next = refl; compared = c; then = rw (c, replay) at e }
+  does-next f b n k p (stop t′ v′) e = clash (cc)
 
   compared-right : (o : Op) (l : Entry) (c : Content) (a : ℕ) → compare M o (by l c) ≡ right a →
       (a ≡ apply o c .0) × (l .op ≡ shown M o (apply o c .0))
@@ -165,31 +167,27 @@ module _ (M : Machine) (F : ℕ → ℕ → Claim M) (count : ℕ → ℕ) (rep 
       Carried stage s (ln (lineNow M s r (suc k) o) ∷ ys)
   sim-did r k o p ys ih stage s e ad nu go inv fit =
       let l = lineNow M s r (suc k) o in
-      let logged = s .logs (o .object) ++ (l ∷ []) in
       extend (ln l) ys stage s (operated M s r (suc k) p o) (rw (e, ad, eqb-self (suc k)))
       (ih (bump stage r) (operated M s r (suc k) p o) (nu .1) go (record {
         phases = fits-upd stage (s .phase) r (opened (resume p (answerNow M s o)) (suc k)) (inv .phases) fit;
         ahead = ahead-next M F s r k p o ys (inv .ahead) .1;
       }))
-      (λ q. same-or (λ q. upd (s .logs) (o .object) logged q ++ linesOf q ys ≡ s .logs q ++ linesOf q (ln l ∷ ys)) (o .object) q
-      (rw (upd-same (s .logs) (o .object) logged, eqb-self (o .object))
-      (append-assoc (s .logs (o .object)) (l ∷ []) (linesOf (o .object) ys)))
-      (λ i d. rw (upd-other (s .logs) logged i, d)))
+      (joined M s ys r (suc k) p o)
 
   sim-op : (l : Entry) (ys : List Node) → Simulated ys → (stage : ℕ → ℕ) (s : State M) → Numbered rid (num count) stage (ln l ∷ ys) →
       All Replayed ys → Invariant stage s (ln l ∷ ys) → (p : Process) (k n : ℕ) → s .phase (l .rid) ≡ opened p k → l .num ≡ suc k →
-      k + suc n ≡ count (l .rid) → Did (F (l .rid)) (rep (l .rid)) n (suc k) p (advance p) (out (l .rid)) → Carried stage s (ln l ∷ ys)
+      k + suc n ≡ count (l .rid) → Does (F (l .rid)) (rep (l .rid)) n (suc k) p (advance p) (out (l .rid)) → Carried stage s (ln l ∷ ys)
   sim-op l ys ih stage s nu go inv p k n e m c w =
       let r = l .rid in
-      let o = w .did in
+      let o = w .operation in
       let here = s .contents (l .op .object) in
       let f : F r (l .num) ≡ by l here = (rw (eqb-self (l .op .object)) at (inv .ahead (l .op .object))) .0 in
-      let x : compare M o (by l here) ≡ right (w .got) =
-      subst (λ c. compare M o c ≡ right (w .got)) (ap (F r) (sym m) ∙ f) (w .compared) in
-      let y = compared-right o l here (w .got) x in
+      let g = ap (F r) (sym m) ∙ f in
+      let x : compare M o (by l here) ≡ right (w .answer) = subst (λ c. compare M o c ≡ right (w .answer)) g (w .compared) in
+      let y = compared-right o l here (w .answer) x in
       let j : l .op .object ≡ o .object = ap (λ o. o .object) (y .1) in
       let z : l .op ≡ shown M o (answerNow M s o) = y .1 ∙ ap (λ i. shown M o (apply o (s .contents i) .0)) j in
-      let a : w .got ≡ answerNow M s o = y .0 ∙ ap (λ i. apply o (s .contents i) .0) j in
+      let a : w .answer ≡ answerNow M s o = y .0 ∙ ap (λ i. apply o (s .contents i) .0) j in
       let q : l ≡ lineNow M s r (suc k) o = λ i. record { rid = l .rid; num = m i; op = z i } in
       subst (λ l′. Carried stage s (ln l′ ∷ ys)) (sym q) (sim-did r k o p ys ih stage s e (w .next)
       (subst (λ l′. Numbered rid (num count) stage (ln l′ ∷ ys)) q nu)
@@ -207,9 +205,9 @@ module _ (M : Machine) (F : ℕ → ℕ → Claim M) (count : ℕ → ℕ) (rep 
           left : (n : ℕ) → 1 ≤ n → k + n ≡ count (l .rid) → Replaying (l .rid) n (suc k) p → Carried stage s (ln l ∷ ys)
           left zero b c d = absurd (omega arith)
           left (suc n) b c d =
-              let x = did-next (F (l .rid)) (rep (l .rid)) n (suc k) p (advance p) (d ∙ go .0 .2 .2) in
+              let x = does-next (F (l .rid)) (rep (l .rid)) n (suc k) p (advance p) (d ∙ go .0 .2 .2) in
               sim-op l ys ih stage s nu (go .1) inv p k n e (nu .0 ∙ h .0) c
-              (subst (Did (F (l .rid)) (rep (l .rid)) n (suc k) p (advance p)) (sym (go .0 .2 .2)) x)
+              (subst (Does (F (l .rid)) (rep (l .rid)) n (suc k) p (advance p)) (sym (go .0 .2 .2)) x)
       at (closed w n) e h = absurd (omega (arith, nu .0, h .0, h .1, go .0 .1))
 
   pub simulate : (ys : List Node) → Simulated ys

@@ -94,11 +94,15 @@ module _ (M : Machine) (opening : ℕ → M .Content) (b : Batch) (f : Formed b)
   abbrev Settled : Of → Phase M → Type 0
   Settled x p = (operationsOf M p ≡ x .count) × (pathOf M p ≡ groupPath (x .group))
 
+  group-path : (x : Of) (q : Passed M opening b x) → q .path ≡ groupPath (x .group)
+  group-path x q = along-path (q .path) (outcome M opening b (firstOf (b .ofs) (x .group))) (q .grouped)
+
   settled : (x : Of) (stage : ℕ) (p : Phase M) → Passed M opening b x → cnt (x .rid) ≡ x .count → cnt (x .rid) < stage →
-      ((s v : ℕ) → rep (x .rid) ≡ said s v → suc (cnt (x .rid)) < stage) → Fits M F cnt rep (outcome M opening b) (x .rid) stage p → Settled x p
+      ((s v : ℕ) → rep (x .rid) ≡ said s v → suc (cnt (x .rid)) < stage) → Fits M F cnt rep (outcome M opening b) (x .rid) stage p →
+      Settled x p
   settled x stage absent q c l a i = absurd (omega arith)
   settled x stage (opened p k) q c l a i =
-      (omega (arith, i .0, i .1 .1), at (rep (x .rid)) refl ∙ along-path (q .path) (outcome M opening b (firstOf (b .ofs) (x .group))) (q .grouped))
+      (omega (arith, i .0, i .1 .1), at (rep (x .rid)) refl ∙ group-path x q)
     where
       at : (y : Reply) → rep (x .rid) ≡ y → pathSoFar p ≡ q .path
       at silent e =
@@ -110,7 +114,7 @@ module _ (M : Machine) (opening : ℕ → M .Content) (b : Batch) (f : Formed b)
       let e = q .replayed in
       let g = i .2 .1 in
       let j : w ≡ q .path = cc in
-      (i .1 ∙ c, j ∙ along-path (q .path) (outcome M opening b (firstOf (b .ofs) (x .group))) (q .grouped))
+      (i .1 ∙ c, j ∙ group-path x q)
 
   module _ (order : List Node) (is : OrderOf b order) where
     -- how far the order comes with each request

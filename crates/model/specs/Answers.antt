@@ -1,4 +1,4 @@
--- What the operations of a run answer, and what a log makes of a content.
+-- What the operations of a run answer, what their log lines answer, and what a log makes of a content.
 use mathlib.Core.Bool.{cond, _&&_}
 use mathlib.Core.List.{List, [], _∷_}
 use mathlib.Core.Option.{Option, none, some}
@@ -7,6 +7,7 @@ use lib.Dec.{eqb}
 use Rattle.text.specs.declared.report.Entry.{Entry}
 use Rattle.model.specs.Machine.{Next, op, stop, Machine}
 use Rattle.model.specs.PlainRun.{Item, event, operation, State, Phase, absent, opened, closed, answerNow, step}
+use Rattle.model.specs.Replay.{Claim, unclaimed, by}
 
 module _ (M : Machine) where
   open Machine M using (Content, advance, apply)
@@ -36,3 +37,8 @@ module _ (M : Machine) where
   answerOf r k (event e ∷ xs) s = onward (step M s (event e)) (answerOf r k xs)
   answerOf r k (operation q n ∷ xs) s =
       cond (eqb q r && eqb n k) (phaseAnswer s (s .phase q)) (onward (step M s (operation q n)) (answerOf r k xs))
+
+  -- the answer that the log line of an operation gives, done again at what its object held just before it
+  abbrev pub loggedAnswer : Claim M → Option ℕ
+  loggedAnswer unclaimed = none
+  loggedAnswer (by l c) = some (apply (l .op) c .0)

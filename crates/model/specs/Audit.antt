@@ -2,6 +2,7 @@
 use mathlib.Core.Bool.{Bool, true, false, cond, _&&_, _||_, not}
 use mathlib.Core.List.{List, [], _∷_, _++_}
 use mathlib.Core.Option.{Option, none, some}
+use mathlib.Core.Path.{_≡_}
 use Prim.Native.Nat.{ℕ, zero, suc}
 use lib.Dec.{eqb, ltb}
 use lib.ListN.{length}
@@ -119,6 +120,11 @@ module _ (M : Machine) (opening : ℕ → M .Content) (b : Batch) where
   abbrev pub reportChecks : List Check
   reportChecks = check 6 (row6 b) ∷ check 7 (row7 b) ∷ check 8 (row8 b) ∷ check 9 (row9 b) ∷ replayChecks 1 (b .ofs)
 
-  -- the audit of texts that are readable
-  unfoldable pub audit : (known : ℕ → Bool) → Verdict
-  audit known = firstFault (traceChecks known (b .trace) ++ reportChecks)
+-- the audit of texts that are readable
+unfoldable pub audit : (M : Machine) → (ℕ → M .Content) → (known : ℕ → Bool) → Batch → Verdict
+audit M opening known b = firstFault (traceChecks known (b .trace) ++ reportChecks M opening b)
+
+-- no row from 4 to 8 holds
+abbrev pub NoneTo8 : (known : ℕ → Bool) → Batch → Type 0
+NoneTo8 known b =
+    (row4 known (b .trace) ≡ none) × (row4Open (b .trace) ≡ none) × (row6 b ≡ none) × (row7 b ≡ none) × (row8 b ≡ none)

@@ -24,7 +24,7 @@ firstFault (check k (some n) ∷ cs) = verdict k n
 abbrev pub breaks : Bool → ℕ → Option ℕ
 breaks bad n = cond bad (some n) none
 
--- The first line that breaks a rule, read downward: n is the number of the line to be looked at, `past` are the lines above it, latest first.
+-- The first line that breaks a rule, read downward: n is the number of the next line, `past` are the lines above it, latest first.
 module _ {A : Type 0} (bad : List A → A → Bool) where
   abbrev pub firstBad : ℕ → List A → List A → Option ℕ
   firstBad n past [] = none

@@ -63,15 +63,25 @@ module _ (M : Machine) where
     on : Host → Stepped
 
   -- an arrival; a rid that arrives twice breaks row 14
+  abbrev pub afterArrival : Host → (rid prog a b : ℕ) → Host
+  afterArrival h r prog a b = record {
+    state = arrived M (h .state) r prog a b;
+    trace = h .trace ++ (Request r prog a b ∷ []);
+    operations = h .operations;
+  }
+
   abbrev pub arrive : Host → (rid prog a b : ℕ) → Phase M → Stepped
-  arrive h r prog a b absent =
-      on (record {
-        state = arrived M (h .state) r prog a b;
-        trace = h .trace ++ (Request r prog a b ∷ []);
-        operations = h .operations;
-      })
+  arrive h r prog a b absent = on (afterArrival h r prog a b)
   arrive h r prog a b (opened p k) = broken
   arrive h r prog a b (closed w n) = broken
+
+  -- an operation, and a reply or cut
+  abbrev pub afterOperation : Host → State M → Host
+  afterOperation h s = record { state = s; trace = h .trace; operations = suc (h .operations) }
+
+  abbrev pub afterReply : Host → State M → (rid status value : ℕ) → Host
+  afterReply h s r status value =
+      record { state = s; trace = h .trace ++ (Response r status value ∷ []); operations = h .operations }
 
   -- known: the programs that there are; limit: the most operations of a batch
   module _ (known : ℕ → Bool) (limit : ℕ) where
@@ -79,24 +89,22 @@ module _ (M : Machine) where
     abbrev pub commit : Host → Turned → Stepped
     commit h missing = broken
     commit h idle = on h
-    commit h (worked s) =
-        cond (ltb (h .operations) limit) (on (record { state = s; trace = h .trace; operations = suc (h .operations) })) broken
-    commit h (finished s r status value) =
-        on (record { state = s; trace = h .trace ++ (Response r status value ∷ []); operations = h .operations })
+    commit h (worked s) = cond (ltb (h .operations) limit) (on (afterOperation h s)) broken
+    commit h (finished s r status value) = on (afterReply h s r status value)
 
     -- an unknown program breaks row 14
-    abbrev pub moved : Host → Move → Stepped
-    moved h (Arrive r prog a b) = cond (known prog) (arrive h r prog a b (h .state .phase r)) broken
-    moved h (Turn r) = commit h (turnOf (h .state) r (h .state .phase r))
+    abbrev pub stepped : Host → Move → Stepped
+    stepped h (Arrive r prog a b) = cond (known prog) (arrive h r prog a b (h .state .phase r)) broken
+    stepped h (Turn r) = commit h (turnOf (h .state) r (h .state .phase r))
 
-    -- Row 14, line by line: the schedule from line n on
-    abbrev pub follow : ℕ → Stepped → (Host → Result Host) → Result Host
-    follow n broken f = fault 14 n
-    follow n (on h) f = f h
+    -- Row 14, line by line: the run of the schedule from line n on
+    abbrev pub goOn : ℕ → Stepped → (Host → Result Host) → Result Host
+    goOn n broken f = fault 14 n
+    goOn n (on h) f = f h
 
-    abbrev pub played : ℕ → List Move → Host → Result Host
-    played n [] h = made h
-    played n (m ∷ ms) h = follow n (moved h m) (played (suc n) ms)
+    abbrev pub runFrom : ℕ → List Move → Host → Result Host
+    runFrom n [] h = made h
+    runFrom n (m ∷ ms) h = goOn n (stepped h m) (runFrom (suc n) ms)
 
   -- Row 15: a request left open; the line is that of its arrival.
   abbrev pub isOpen : Phase M → Bool
@@ -137,4 +145,4 @@ module _ (M : Machine) where
 
   -- the run of a schedule, and the batch that it writes
   abbrev pub recorded : (known : ℕ → Bool) (limit objects : ℕ) → (ℕ → Content) → List Move → Result Batch
-  recorded known limit objects opening ms = write objects ms (played known limit 1 ms (empty opening))
+  recorded known limit objects opening ms = write objects ms (runFrom known limit 1 ms (empty opening))

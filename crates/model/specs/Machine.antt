@@ -2,6 +2,7 @@
 use mathlib.Core.Path.{_≡_}
 use mathlib.Core.List.{List}
 use Prim.Native.Nat.{ℕ}
+use Rattle.ordering.specs.Maps.{upd}
 use Rattle.text.specs.declared.report.Op.{Op}
 
 -- What a process does next: an operation, or it stops with a status and a value (0 and the reply; 1 and 0 where it is cut off).
@@ -15,6 +16,7 @@ pub record Machine : Type 1 where
   pub Content : Type 0
   -- a request as it arrives, with nothing carried out
   pub start : (prog a b : ℕ) → Process
+  -- what it does next
   pub advance : Process → Next
   -- the process behind its next operation, with the answer
   pub resume : Process → ℕ → Process
@@ -32,3 +34,7 @@ pub record Machine : Type 1 where
 -- an operation as its log line has it
 abbrev pub shown : (M : Machine) → Op → ℕ → Op
 shown M o answer = record { object = o .object; kind = o .kind; key = o .key; value = M .logged o answer }
+
+-- the objects behind an operation
+abbrev pub applied : (M : Machine) → (ℕ → M .Content) → Op → ℕ → M .Content
+applied M c o = upd c (o .object) (M .apply o (c (o .object)) .1)

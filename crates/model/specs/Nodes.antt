@@ -1,4 +1,5 @@
--- The items of a batch as the ordering takes them: each stands in a lane (0 the trace, 1 + o the log of object o) and has a number in its request.
+-- The items of a batch as the ordering takes them: each stands in a lane (0 the trace, 1 + o the log of object o), and has a number in its
+-- request.
 use mathlib.Core.List.{List, _++_, map}
 use Prim.Native.Nat.{ℕ, suc}
 use lib.ListN.{length}

@@ -9,7 +9,7 @@ use Rattle.text.specs.declared.report.Op.{Op}
 use Rattle.text.specs.declared.trace.Event.the-variants.{Request, Response}
 use Rattle.text.specs.declared.trace.Event.{Event}
 use Rattle.ordering.specs.Maps.{upd}
-use Rattle.model.specs.Machine.{Next, op, stop, Machine, shown}
+use Rattle.model.specs.Machine.{Next, op, stop, Machine, shown, applied}
 
 -- an item of an order: a trace line, or an operation given as rid and number
 pub data Item : Type 0 where
@@ -52,7 +52,7 @@ module _ (M : Machine) where
   -- Operation: the request goes on through it, and its log line joins the end of its object's log.
   abbrev pub operated : State → (rid num : ℕ) → Process → Op → State
   operated s r k p o = record {
-    contents = upd (s .contents) (o .object) (apply o (s .contents (o .object)) .1);
+    contents = applied M (s .contents) o;
     logs = upd (s .logs) (o .object) (s .logs (o .object) ++ (lineNow s r k o ∷ []));
     phase = upd (s .phase) r (opened (resume p (answerNow s o)) k);
   }

@@ -1,4 +1,4 @@
--- "Comes before" among the events and log lines of a batch, by 01's five rules. The rule T for the trace is a parameter.
+-- "Comes before" among the events and log lines of a batch, by the five rules of the paper. The rule T for the trace is a parameter.
 use mathlib.Core.List.{List, List·Memᴰ}
 use mathlib.Core.Path.{_≡_}
 use Prim.Native.Nat.{ℕ, suc}
@@ -25,17 +25,18 @@ pub data Precedes (T : List Event → Event → Event → Type 0) (b : Batch) : 
   -- neighbours in one object's log
   logged : {l m : Entry} (o : ℕ) → Neighbours (logOf o (b .log)) l m → Precedes T b (ln l) (ln m)
 
--- a chain of 01's "comes before", and one that returns to its start
+-- a chain of "comes before", and one that returns to its start
 abbrev pub Leads : Batch → Node → Node → Type 0
 Leads b = Chain (Precedes Neighbours b)
 
 abbrev pub Returns : Batch → Type 0
 Returns b = Cycle (Precedes Neighbours b)
 
--- the weaker rule for the trace, of document 001: a response and each later request
-pub data Answers (trace : List Event) : Event → Event → Type 0 where
-  answers : {r s v q prog x y : ℕ} → Later trace (Response r s v) (Request q prog x y) → Answers trace (Response r s v) (Request q prog x y)
+-- the weaker rule for the trace, of source document 001: a response and each later request
+pub data LaterRequest (trace : List Event) : Event → Event → Type 0 where
+  laterRequest : {r s v q prog x y : ℕ} → Later trace (Response r s v) (Request q prog x y) →
+      LaterRequest trace (Response r s v) (Request q prog x y)
 
 -- a chain by the weaker rule that returns to its start
 abbrev pub ReturnsWeakly : Batch → Type 0
-ReturnsWeakly b = Cycle (Precedes Answers b)
+ReturnsWeakly b = Cycle (Precedes LaterRequest b)

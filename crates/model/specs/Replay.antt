@@ -1,5 +1,5 @@
 -- The replay of one request against the log lines that claim its operations.
-use mathlib.Core.Bool.{Bool, true, false, cond, _&&_}
+use mathlib.Core.Bool.{Bool, cond, _&&_}
 use mathlib.Core.List.{List, [], _∷_}
 use mathlib.Core.Option.{Option, none, some}
 use Prim.Native.Nat.{ℕ, zero, suc}
@@ -8,9 +8,8 @@ use Rattle.text.specs.declared.report.Entry.{Entry}
 use Rattle.text.specs.declared.report.Op.{Op}
 use Rattle.text.specs.declared.trace.Event.the-variants.{Request, Response}
 use Rattle.text.specs.declared.trace.Event.{Event}
-use Rattle.ordering.specs.Maps.{upd}
 use Rattle.model.specs.Batch.{Batch, claims, countOf}
-use Rattle.model.specs.Machine.{Next, op, stop, Machine, shown}
+use Rattle.model.specs.Machine.{Next, op, stop, Machine, shown, applied}
 
 -- equal in object, kind, key and value
 abbrev pub sameOp : Op → Op → Bool
@@ -45,12 +44,9 @@ module _ (M : Machine) where
     unclaimed : Claim
     by : Entry → Content → Claim
 
-  abbrev pub write : (ℕ → Content) → Op → ℕ → Content
-  write c o = upd c (o .object) (apply o (c (o .object)) .1)
-
   abbrev pub claim : List Entry → (ℕ → Content) → (rid num : ℕ) → Claim
   claim [] c r k = unclaimed
-  claim (l ∷ ls) c r k = cond (claims r k l) (by l (c (l .op .object))) (claim ls (write c (l .op)) r k)
+  claim (l ∷ ls) c r k = cond (claims r k l) (by l (c (l .op .object))) (claim ls (applied M c (l .op)) r k)
 
   -- operation k must equal the line that claims it
   abbrev pub compare : Op → Claim → Answer

@@ -3,7 +3,8 @@ use mathlib.Core.Path.{_≡_, refl, sym, subst, fun-ext}
 use mathlib.Core.Logic.{_≢_}
 use mathlib.Core.Bool.{Bool, true, false, cond, _&&_, not}
 use Prim.Native.Nat.{ℕ}
-use lib.Dec.{T, eqb, eqb→eq, eqb-refl}
+use lib.Dec.{T, eqb}
+use borrow.Author.Tests.{eqb-true, eqb-false, eq-eqb, ne-eqb, not-true as not-is-true}
 use native.Mathlib.Omega.{arith}
 use Rattle.ordering.specs.Maps.{upd}
 
@@ -16,25 +17,18 @@ pub byBool {ℓ} : {P : Type ℓ} (b : Bool) → (b ≡ true → P) → (b ≡ f
 byBool true f g = f refl
 byBool false f g = g refl
 
+-- the test of two numbers, with the numbers found from the equation
 pub eqb-yes : {a b : ℕ} → a ≡ b → eqb a b ≡ true
-eqb-yes {a} {b} p = go (eqb a b) (subst (λ k. T (eqb a k)) p (eqb-refl a))
-  where
-    go : (c : Bool) → T c → c ≡ true
-    go true t = refl
-    go false t = absurd t
+eqb-yes {a} {b} = eq-eqb a b
 
 pub eqb-no : {a b : ℕ} → a ≢ b → eqb a b ≡ false
-eqb-no {a} {b} n = go (eqb a b) refl
-  where
-    go : (c : Bool) → eqb a b ≡ c → c ≡ false
-    go true e = absurd (n (eqb→eq a b (subst T (sym e) tt)))
-    go false e = refl
+eqb-no {a} {b} = ne-eqb a b
 
 pub yes-eqb : {a b : ℕ} → eqb a b ≡ true → a ≡ b
-yes-eqb {a} {b} e = eqb→eq a b (subst T (sym e) tt)
+yes-eqb {a} {b} = eqb-true a b
 
 pub no-eqb : {a b : ℕ} → eqb a b ≡ false → a ≢ b
-no-eqb {a} {b} e p = subst T e (subst (λ k. T (eqb a k)) p (eqb-refl a))
+no-eqb {a} {b} = eqb-false a b
 
 -- by cases on whether two numbers are equal, with the test's value
 pub byEq {ℓ} : {P : Type ℓ} (a b : ℕ) → (a ≡ b → eqb a b ≡ true → P) → (a ≢ b → eqb a b ≡ false → P) → P
@@ -48,7 +42,7 @@ pub eqb-self : (a : ℕ) → eqb a a ≡ true
 eqb-self a = eqb-yes {a = a} refl
 
 pub not-true : {b : Bool} → not b ≡ true → b ≡ false
-not-true {b} e = elim b as (λ b. not b ≡ true → b ≡ false) [ true ↦ (λ e. clash (cc)) | false ↦ (λ e. refl) ] e
+not-true {b} = not-is-true b
 
 pub and-true : (a b : Bool) → (a && b) ≡ true → (a ≡ true) × (b ≡ true)
 and-true true true e = (refl, refl)

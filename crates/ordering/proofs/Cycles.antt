@@ -17,12 +17,12 @@ use Prim.Native.Nat.{ℕ, zero, suc, _+_, _≤_, _<_}
 use native.Mathlib.Omega.{arith}
 use lib.ListN.{length}
 use Rattle.ordering.specs.Lists.{All, tally, Neighbours, Later}
-use Rattle.ordering.specs.Order.{onLane, IsOrder, stuck, pick, merge}
+use Rattle.ordering.specs.Order.{onLane, IsOrder, stuck, pick, mergeAll}
 use Rattle.ordering.specs.Chain.{Chain, one, Cycle}
 use Rattle.ordering.specs.Before.{ComesBefore, events, logged, next}
 use Rattle.ordering.specs.Whole.{keyed, Whole}
 use Rattle.ordering.specs.FirstFree.{Waits}
-use Rattle.ordering.proofs.Basics.{byEq, eqb-yes}
+use Rattle.ordering.proofs.Basics.{eqb-yes}
 use Rattle.ordering.proofs.Lists.{
   mem-all,
   all-append,
@@ -31,7 +31,7 @@ use Rattle.ordering.proofs.Lists.{
   later-mem,
   neighbours-later,
   First,
-  Second,
+  Preceded,
   first-or,
 }
 use Rattle.ordering.proofs.Lanes.{on-append, on-mem, mem-on, tally-on, tally-lanes}
@@ -94,7 +94,7 @@ module _ {A : Type 0} (lane rid num : A → ℕ) where
         ((q : List A) → onLane lane (lane x) left ≡ x ∷ q → num x ≢ reached rid (λ r. 0) out (rid x)) → Waits (Precedes all) left x
     waits-for x m nr = at (first-or (onLane lane (lane x) left) x (mem-on lane left x m))
       where
-        at : First (onLane lane (lane x) left) x ⊎ Second (onLane lane (lane x) left) x → Waits (Precedes all) left x
+        at : First (onLane lane (lane x) left) x ⊎ Preceded (onLane lane (lane x) left) x → Waits (Precedes all) left x
         at (inr p) =
             let n = p .1 in (
               p .0,
@@ -145,9 +145,9 @@ module _ {A : Type 0} (lane rid num : A → ℕ) where
         at (x ∷ xs) q = cycle left x (subst (List·Memᴰ x) (sym q) (List·Memᴰ·head refl)) waiting
 
   -- ── a merge that stops early has a cycle ──
-  pub stops-cycle : (all : List A) → Whole lane rid num all → merge lane rid num (length all) (λ r. 0) all .1 ≢ [] → Cycle (Precedes all)
+  pub stops-cycle : (all : List A) → Whole lane rid num all → mergeAll lane rid num all .1 ≢ [] → Cycle (Precedes all)
   stops-cycle all w n =
-      let m = merge lane rid num (length all) (λ r. 0) all in
+      let m = mergeAll lane rid num all in
       ⊎-elim
       (λ e. absurd (n e))
       (λ e. stuck-cycle all w (m .0) (m .1) (merged lane rid num (length all) (λ r. 0) all) e n)
@@ -209,8 +209,8 @@ module _ {A : Type 0} (lane rid num : A → ℕ) where
             on-mem lane (lane z) order z (subst (List·Memᴰ z) (sym (h .lanes (lane z))) (mem-on lane all z (target (ending c .1)))) .0
 
   pub merge-cycle : (all : List A) → Whole lane rid num all →
-      (merge lane rid num (length all) (λ r. 0) all .1 ≢ []) ↔ Cycle (ComesBefore lane rid num all)
+      (mergeAll lane rid num all .1 ≢ []) ↔ Cycle (ComesBefore lane rid num all)
   merge-cycle all w = (
     stops-cycle all w,
-    λ c e. order-acyclic all (merge lane rid num (length all) (λ r. 0) all .0) (merge-order lane rid num (length all) (λ r. 0) all e) c,
+    λ c e. order-acyclic all (mergeAll lane rid num all .0) (merge-order lane rid num (length all) (λ r. 0) all e) c,
   )

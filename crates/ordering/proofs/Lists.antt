@@ -16,10 +16,9 @@ use mathlib.Core.List.{
   Memᴰ·append-right,
   append-assoc,
 }
-use Prim.Native.Nat.{ℕ, _+_, _≤_}
+use Prim.Native.Nat.{_+_, _≤_}
 use native.Mathlib.Omega.{arith}
 use Rattle.ordering.specs.Lists.{All, tally, Neighbours, Later}
-use Rattle.ordering.proofs.Basics.{clash}
 
 -- ── all items ──
 pub all-append : {A : Type 0} (P : A → Type 0) (xs ys : List A) → All P xs → All P ys → All P (xs ++ ys)
@@ -86,6 +85,26 @@ module _ {A : Type 0} (f : A → Bool) where
       split-unique p (l .front ++ y ∷ l .between) x q (l .back) g (subst (λ t. tally f t ≤ 1) e t) (sym e ∙ s) in
       subst (List·Memᴰ y) (sym u) (Memᴰ·append-right (l .front) (List·Memᴰ·head refl))
 
+  -- no item is later than itself, and what is later than an item is later than those before it
+  pub not-later : (xs : List A) (x : A) → f x ≡ true → tally f xs ≤ 1 → Later xs x x → ⊥
+  not-later xs x g t l =
+      let u = subst (λ t. tally f t ≤ 1) (l .split) t in
+      let v = rw (tally-append (l .front) (x ∷ (l .between ++ x ∷ l .back)), tally-append (l .between) (x ∷ l .back), g) at u in omega arith
+
+  pub later-next : (xs : List A) (z y x : A) → f y ≡ true → tally f xs ≤ 1 → Later xs z y → Neighbours xs y x → Later xs z x
+  later-next xs z y x g t l n =
+      let s : xs ≡ (l .front ++ z ∷ l .between) ++ y ∷ l .back = l .split ∙ sym (append-assoc (l .front) (z ∷ l .between) (y ∷ l .back)) in
+      let p : l .front ++ z ∷ l .between ≡ n .front =
+      split-unique (l .front ++ z ∷ l .between) (n .front) y (l .back) (x ∷ n .back) g (subst (λ t. tally f t ≤ 1) s t)
+      (sym s ∙ n .split) in
+      record {
+        front = l .front;
+        between = l .between ++ (y ∷ []);
+        back = n .back;
+        split = n .split ∙ ap (λ t. t ++ y ∷ x ∷ n .back) (sym p) ∙ append-assoc (l .front) (z ∷ l .between) (y ∷ x ∷ n .back)
+            ∙ ap (λ t. l .front ++ z ∷ t) (sym (append-assoc (l .between) (y ∷ []) (x ∷ n .back)));
+      }
+
 -- ── neighbours and later items ──
 module _ {A : Type 0} where
   pub later-mem : (xs : List A) (y x : A) → Later xs y x → List·Memᴰ x xs
@@ -100,17 +119,17 @@ module _ {A : Type 0} where
   abbrev pub First : List A → A → Type 0
   First xs x = (q : List A) × (xs ≡ x ∷ q)
 
-  abbrev pub Second : List A → A → Type 0
-  Second xs x = (y : A) × Neighbours xs y x
+  abbrev pub Preceded : List A → A → Type 0
+  Preceded xs x = (y : A) × Neighbours xs y x
 
-  pub first-or : (xs : List A) (x : A) → List·Memᴰ x xs → First xs x ⊎ Second xs x
+  pub first-or : (xs : List A) (x : A) → List·Memᴰ x xs → First xs x ⊎ Preceded xs x
   first-or [] x m = absurd (List·Memᴰ·not-nil m)
   first-or (z ∷ xs) x m = at (List·Memᴰ·cases-cons m) (first-or xs x)
     where
-      step : First xs x ⊎ Second xs x → Second (z ∷ xs) x
+      step : First xs x ⊎ Preceded xs x → Preceded (z ∷ xs) x
       step (inl f) = (z, record { front = []; back = f .0; split = ap (λ t. z ∷ t) (f .1) })
       step (inr f) = (f .0, record { front = z ∷ f .1 .front; back = f .1 .back; split = ap (λ t. z ∷ t) (f .1 .split) })
 
-      at : (x ≡ z) ⊎ List·Memᴰ x xs → (List·Memᴰ x xs → First xs x ⊎ Second xs x) → First (z ∷ xs) x ⊎ Second (z ∷ xs) x
+      at : (x ≡ z) ⊎ List·Memᴰ x xs → (List·Memᴰ x xs → First xs x ⊎ Preceded xs x) → First (z ∷ xs) x ⊎ Preceded (z ∷ xs) x
       at (inl e) ih = inl (xs, ap (λ t. t ∷ xs) (sym e))
       at (inr k) ih = inr (step (ih k))

@@ -16,11 +16,11 @@ among-cons : (n m : ℕ) (ms : List ℕ) → among n (m ∷ ms) ≡ false → (m
 among-cons n m ms e = byEq m n (λ p d. clash (cc)) (λ p d. (p, rw d at e))
 
 module _ {A : Type 0} (lane rid num : A → ℕ) where
-  abbrev Pk : (ℕ → ℕ) → List ℕ → List A → Pick A
-  Pk = pick lane rid num
+  abbrev picks : (ℕ → ℕ) → List ℕ → List A → Pick A
+  picks = pick lane rid num
 
-  abbrev Mg : ℕ → (ℕ → ℕ) → List A → List A × List A
-  Mg = merge lane rid num
+  abbrev merges : ℕ → (ℕ → ℕ) → List A → List A × List A
+  merges = merge lane rid num
 
   -- ── the two cases of a step ──
   pub merge-stuck : (m : ℕ) (stage : ℕ → ℕ) (rest : List A) → pick lane rid num stage [] rest ≡ stuck →
@@ -58,15 +58,15 @@ module _ {A : Type 0} (lane rid num : A → ℕ) where
   pub picked : (stage : ℕ → ℕ) (seen : List ℕ) (rest : List A) (x : A) (rest′ : List A) →
       pick lane rid num stage seen rest ≡ took x rest′ → Picked stage seen rest x rest′
   picked stage seen [] x rest′ e = clash (cc)
-  picked stage seen (y ∷ ys) x rest′ e = byBool (eqb (num y) (stage (rid y)) && not (among (lane y) seen))
+  picked stage seen (y ∷ ys) x rest′ e = byBool (not (among (lane y) seen) && eqb (num y) (stage (rid y)))
       (λ t.
       let e′ : took y ys ≡ took x rest′ = rw t at e in
-      let b = and-true (eqb (num y) (stage (rid y))) (not (among (lane y) seen)) t in
+      let b = and-true (not (among (lane y) seen)) (eqb (num y) (stage (rid y))) t in
       let p : y ≡ x = cc in
       let q : ys ≡ rest′ = cc in
       subst₂ (Picked stage seen (y ∷ ys)) p q
-      (record { fresh = not-true (b .1); next = yes-eqb (b .0); lanes = λ l. refl; shorter = refl }))
-      (λ f. go (Pk stage (lane y ∷ seen) ys) (picked stage (lane y ∷ seen) ys) (rw f at e))
+      (record { fresh = not-true (b .0); next = yes-eqb (b .1); lanes = λ l. refl; shorter = refl }))
+      (λ f. go (picks stage (lane y ∷ seen) ys) (picked stage (lane y ∷ seen) ys) (rw f at e))
     where
       go : (o : Pick A) → ((z : A) (zs : List A) → o ≡ took z zs → Picked stage (lane y ∷ seen) ys z zs) → keep y o ≡ took x rest′ →
           Picked stage seen (y ∷ ys) x rest′
@@ -86,9 +86,9 @@ module _ {A : Type 0} (lane rid num : A → ℕ) where
       let t : eqb (num y) (stage (rid y)) ≡ true = rw g (eqb-yes q) in
       let u : among (lane y) seen ≡ false = rw g f in
       let k′ = rw (t, u) at k in clash (cc))
-      (λ p d. byBool (eqb (num y) (stage (rid y)) && not (among (lane y) seen))
+      (λ p d. byBool (not (among (lane y) seen) && eqb (num y) (stage (rid y)))
       (λ t. let k′ = rw t at k in clash (cc))
-      (λ t. not-stuck stage (lane y ∷ seen) ys x xs (rw d f) (rw d at e) q (unkept (Pk stage (lane y ∷ seen) ys) (rw t at k))))
+      (λ t. not-stuck stage (lane y ∷ seen) ys x xs (rw d f) (rw d at e) q (unkept (picks stage (lane y ∷ seen) ys) (rw t at k))))
     where
       unkept : (o : Pick A) → keep y o ≡ stuck → o ≡ stuck
       unkept stuck k = refl
@@ -103,11 +103,12 @@ module _ {A : Type 0} (lane rid num : A → ℕ) where
   pub merged : (n : ℕ) (stage : ℕ → ℕ) (rest : List A) →
       Merged stage rest (merge lane rid num n stage rest .0) (merge lane rid num n stage rest .1)
   merged zero stage rest = record { lanes = λ l. refl; numbered = tt }
-  merged (suc n) stage rest = go (Pk stage [] rest) refl (λ x xs. merged n (bump stage (rid x)) xs)
+  merged (suc n) stage rest = go (picks stage [] rest) refl (λ x xs. merged n (bump stage (rid x)) xs)
     where
-      go : (o : Pick A) → Pk stage [] rest ≡ o →
-          ((x : A) (xs : List A) → Merged (bump stage (rid x)) xs (Mg n (bump stage (rid x)) xs .0) (Mg n (bump stage (rid x)) xs .1)) →
-          Merged stage rest (Mg (suc n) stage rest .0) (Mg (suc n) stage rest .1)
+      go : (o : Pick A) → picks stage [] rest ≡ o →
+          ((x : A) (xs : List A) →
+          let m = merges n (bump stage (rid x)) xs in Merged (bump stage (rid x)) xs (m .0) (m .1)) →
+          Merged stage rest (merges (suc n) stage rest .0) (merges (suc n) stage rest .1)
       go stuck e ih = rw (e, merge) (record { lanes = λ l. refl; numbered = tt })
       go (took x xs) e ih =
           let h = picked stage [] rest x xs e in
@@ -163,10 +164,11 @@ module _ {A : Type 0} (lane rid num : A → ℕ) where
   order-merge zero stage [] order b h = refl
   order-merge zero stage (x ∷ xs) order b h = absurd (omega arith)
   order-merge (suc n) stage rest [] b h = rw (no-lanes lane rest (λ l. sym (h .lanes l))) refl
-  order-merge (suc n) stage rest (x ∷ xs) b h = go (Pk stage [] rest) refl (order-merge n)
+  order-merge (suc n) stage rest (x ∷ xs) b h = go (picks stage [] rest) refl (order-merge n)
     where
-      go : (o : Pick A) → Pk stage [] rest ≡ o →
-          ((s : ℕ → ℕ) (r o : List A) → length r ≤ n → IsOrder lane rid num s r o → Mg n s r .1 ≡ []) → Mg (suc n) stage rest .1 ≡ []
+      go : (o : Pick A) → picks stage [] rest ≡ o →
+          ((s : ℕ → ℕ) (r o : List A) → length r ≤ n → IsOrder lane rid num s r o → merges n s r .1 ≡ []) →
+          merges (suc n) stage rest .1 ≡ []
       go stuck e ih = absurd
           (not-stuck stage [] rest x (onLane lane (lane x) xs) refl (sym (h .lanes (lane x)) ∙ on-head lane x xs) (h .numbered .0) e)
       go (took y ys) e ih =
@@ -180,14 +182,14 @@ module _ {A : Type 0} (lane rid num : A → ℕ) where
 
   -- ── where the merge stops it is stuck ──
   abbrev Halted : (ℕ → ℕ) → List A × List A → Type 0
-  Halted stage m = (m .1 ≡ []) ⊎ (Pk (reached rid stage (m .0)) [] (m .1) ≡ stuck)
+  Halted stage m = (m .1 ≡ []) ⊎ (picks (reached rid stage (m .0)) [] (m .1) ≡ stuck)
 
   pub halted : (n : ℕ) (stage : ℕ → ℕ) (rest : List A) → length rest ≤ n → Halted stage (merge lane rid num n stage rest)
   halted zero stage [] b = inl refl
   halted zero stage (x ∷ xs) b = absurd (omega arith)
-  halted (suc n) stage rest b = at (Pk stage [] rest) refl (halted n)
+  halted (suc n) stage rest b = at (picks stage [] rest) refl (halted n)
     where
-      at : (o : Pick A) → Pk stage [] rest ≡ o → ((s : ℕ → ℕ) (r : List A) → length r ≤ n → Halted s (Mg n s r)) →
-          Halted stage (Mg (suc n) stage rest)
+      at : (o : Pick A) → picks stage [] rest ≡ o → ((s : ℕ → ℕ) (r : List A) → length r ≤ n → Halted s (merges n s r)) →
+          Halted stage (merges (suc n) stage rest)
       at stuck e ih = rw (e, merge) (inr e)
       at (took x xs) e ih = rw (e, merge) (ih (bump stage (rid x)) xs (omega (arith, picked stage [] rest x xs e .shorter)))

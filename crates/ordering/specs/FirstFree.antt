@@ -17,7 +17,11 @@ module _ {A : Type 0} (R : A → A → Type 0) where
     pub free : Waits left x → ⊥
     pub waits : All (Waits left) front
 
-  -- the order takes the first free item again and again, until nothing is left
+  -- the order takes the first free item again and again, and `rest` is left
+  abbrev pub Takes : List A → List A → List A → Type 0
+  Takes left [] rest = left ≡ rest
+  Takes left (x ∷ xs) rest = (others : List A) × FirstFree left x others × Takes others xs rest
+
+  -- until nothing is left
   abbrev pub Greedy : List A → List A → Type 0
-  Greedy left [] = left ≡ []
-  Greedy left (x ∷ xs) = (others : List A) × FirstFree left x others × Greedy others xs
+  Greedy left order = Takes left order []

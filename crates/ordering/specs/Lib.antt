@@ -1,3 +1,4 @@
+pub mod Choice
 pub mod Lists
 pub mod Maps
 pub mod Order
@@ -5,3 +6,5 @@ pub mod Chain
 pub mod Before
 pub mod Whole
 pub mod FirstFree
+pub mod Positions
+pub mod Heads

@@ -5,11 +5,14 @@ use mathlib.Core.Bool.{Bool, true, false, cond, _&&_, not}
 use mathlib.Core.List.{List, [], _∷_}
 use Prim.Native.Nat.{ℕ, zero, suc}
 use lib.Dec.{eqb}
+use lib.ListN.{length}
+use Rattle.ordering.specs.Choice.{choose}
 use Rattle.ordering.specs.Maps.{upd}
 
+-- whether a number stands in a list
 abbrev pub among : ℕ → List ℕ → Bool
 among n [] = false
-among n (m ∷ ms) = cond (eqb m n) true (among n ms)
+among n (m ∷ ms) = choose (eqb m n) true (λ _. among n ms)
 
 -- the next number of each request, after one more item of request r
 unfoldable pub bump : (ℕ → ℕ) → ℕ → ℕ → ℕ
@@ -34,6 +37,7 @@ pub data Pick (A : Type 0) : Type 0 where
   took : A → List A → Pick A
 
 module _ {A : Type 0} where
+  -- the same with x among the others
   abbrev pub keep : A → Pick A → Pick A
   keep x stuck = stuck
   keep x (took y ys) = took y (x ∷ ys)
@@ -44,11 +48,11 @@ module _ {A : Type 0} (lane rid num : A → ℕ) where
     pub lanes : (l : ℕ) → onLane lane l order ≡ onLane lane l rest
     pub numbered : Numbered rid num stage order
 
-  -- the first item of `rest` that is next in its request and first of its lane; `seen` are the lanes of the items passed over
+  -- the first item of `rest` that is first of its lane and next in its request; `seen` are the lanes of the items passed over
   abbrev pub pick : (ℕ → ℕ) → List ℕ → List A → Pick A
   pick stage seen [] = stuck
   pick stage seen (x ∷ xs) =
-      cond (eqb (num x) (stage (rid x)) && not (among (lane x) seen)) (took x xs) (keep x (pick stage (lane x ∷ seen) xs))
+      choose (not (among (lane x) seen) && eqb (num x) (stage (rid x))) (took x xs) (λ _. keep x (pick stage (lane x ∷ seen) xs))
 
   -- the order that takes at each step what `pick` gives, and what is left where it stops
   abbrev pub merge : ℕ → (ℕ → ℕ) → List A → List A × List A
@@ -57,3 +61,7 @@ module _ {A : Type 0} (lane rid num : A → ℕ) where
     | stuck ↦ ([], rest)
     | took x xs ↦ (let m = merge n (bump stage (rid x)) xs in (x ∷ m .0, m .1))
   ]
+
+  -- the merge of all items, from the start
+  abbrev pub mergeAll : List A → List A × List A
+  mergeAll all = merge (length all) (λ r. 0) all

@@ -18,6 +18,8 @@ module _ {A : Type 0} (lane rid num : A → ℕ) where
     -- no number comes twice in a request, and each has the one before it
     pub once : (r k : ℕ) → tally (keyed rid num r k) all ≤ 1
     pub down : (x : A) → List·Memᴰ x all → (k : ℕ) → num x ≡ suc k → (y : A) × List·Memᴰ y all × (rid y ≡ rid x) × (num y ≡ k)
-    -- an item of the trace that has a next one in its request is the request itself; if the next one is in the trace too, it is a later event
+    -- an item of the trace that has a next one in its request is the request itself
     pub opens : (y x : A) → List·Memᴰ y all → List·Memᴰ x all → lane y ≡ 0 → Follows rid num y x → num y ≡ 0
-    pub behind : (y x : A) → List·Memᴰ y all → List·Memᴰ x all → lane y ≡ 0 → lane x ≡ 0 → Follows rid num y x → Later (onLane lane 0 all) y x
+    -- and if the next one is in the trace too, it is a later event
+    pub behind : (y x : A) → List·Memᴰ y all → List·Memᴰ x all → lane y ≡ 0 → lane x ≡ 0 → Follows rid num y x →
+        Later (onLane lane 0 all) y x

@@ -1,0 +1,60 @@
+-- Laws of a number written in decimal.
+use Prim.Native.Nat.{ℕ, suc, zero, _+_, _*_, _^_, _/_, _%_, _<_, _≤_, pow·suc}
+use mathlib.Core.List.{List, [], _∷_, _++_}
+use mathlib.Core.Bool.{Bool, true, false}
+use mathlib.Core.Path.{_≡_, refl, sym, _∙_, ap}
+use native.Mathlib.Omega.{arith}
+use lib.ListN.{length, length-append}
+use lib.Dec.{ltb}
+use borrow.Author.Tests.{lt-ltb, le-ltb, ltb-true, ltb-false}
+use Rattle.lines.specs.Decimal.{digitsIn, decimal}
+
+digitsIn-small : (k v : ℕ) → v < 10 → digitsIn k v ≡ (48 + v) ∷ []
+unfolding digitsIn
+digitsIn-small zero v h = refl
+digitsIn-small (suc k) v h = simp (lt-ltb v 10 h, digitsIn)
+
+digitsIn-big : (k v : ℕ) → 10 ≤ v → digitsIn (suc k) v ≡ digitsIn k (v / 10) ++ (48 + v % 10) ∷ []
+unfolding digitsIn
+digitsIn-big k v h = simp (le-ltb v 10 h, digitsIn)
+
+-- divisions enough are enough
+digitsIn-same : (k j v : ℕ) → v ≤ k → v ≤ j → digitsIn k v ≡ digitsIn j v
+digitsIn-same zero j v h g = digitsIn-small zero v (omega arith) ∙ sym (digitsIn-small j v (omega arith))
+digitsIn-same (suc k) zero v h g = digitsIn-small (suc k) v (omega arith) ∙ sym (digitsIn-small zero v (omega arith))
+digitsIn-same (suc k) (suc j) v h g = go (ltb v 10) refl (digitsIn-same k j (v / 10))
+  where
+    go : (b : Bool) → ltb v 10 ≡ b → (v / 10 ≤ k → v / 10 ≤ j → digitsIn k (v / 10) ≡ digitsIn j (v / 10)) → digitsIn (suc k) v ≡ digitsIn (suc j) v
+    go true e ih = let l = ltb-true v 10 e in digitsIn-small (suc k) v l ∙ sym (digitsIn-small (suc j) v l)
+    go false e ih =
+        let l = ltb-false v 10 e in
+        digitsIn-big k v l ∙ ap (λ (t : List ℕ). t ++ (48 + v % 10) ∷ []) (ih (omega arith) (omega arith)) ∙ sym (digitsIn-big j v l)
+
+pub decimal-small : (v : ℕ) → v < 10 → decimal v ≡ (48 + v) ∷ []
+unfolding decimal
+decimal-small v h = digitsIn-small v v h
+
+pub decimal-big : (v : ℕ) → 10 ≤ v → decimal v ≡ decimal (v / 10) ++ (48 + v % 10) ∷ []
+unfolding decimal
+decimal-big zero h = absurd (omega arith)
+decimal-big (suc k) h = digitsIn-big k (suc k) h ∙ ap (λ (t : List ℕ). t ++ (48 + suc k % 10) ∷ []) (digitsIn-same k (suc k / 10) (suc k / 10) (omega arith) (omega arith))
+
+pub decimal-more : (v : ℕ) → 10 ≤ v → length (decimal v) ≡ length (decimal (v / 10)) + 1
+decimal-more v h = ap length (decimal-big v h) ∙ length-append (decimal (v / 10)) _
+
+pub decimal-one : (v : ℕ) → v < 10 → length (decimal v) ≡ 1
+decimal-one v h = ap length (decimal-small v h)
+
+pub decimal-length : (k v : ℕ) → v < 10 * 10 ^ k → length (decimal v) ≤ k + 1
+decimal-length zero v h = omega (arith, decimal-one v (omega arith))
+decimal-length (suc k) v h = go (ltb v 10) refl (decimal-length k (v / 10))
+  where
+    go : (b : Bool) → ltb v 10 ≡ b → (v / 10 < 10 * 10 ^ k → length (decimal (v / 10)) ≤ k + 1) → length (decimal v) ≤ suc k + 1
+    go true e ih = omega (arith, decimal-one v (ltb-true v 10 e))
+    go false e ih =
+        let l = ltb-false v 10 e in
+        omega (arith, decimal-more v l, ih (omega (arith, rw pow·suc at h)))
+
+-- a number of 64 bits has at most 20 digits
+pub decimal-20 : (v : ℕ) → v < 2 ^ 64 → length (decimal v) ≤ 20
+decimal-20 v h = decimal-length 19 v (omega arith)

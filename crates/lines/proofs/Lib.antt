@@ -1,0 +1,12 @@
+pub mod Parts
+pub mod Numerals
+pub mod Spelling
+pub mod Prefix
+pub mod FieldLaws
+pub mod LinePlaces
+pub mod Decimals
+pub mod Puts
+pub mod Writing
+pub mod LineTexts
+pub mod NumberTrip
+pub mod LineTrip

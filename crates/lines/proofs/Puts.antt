@@ -1,0 +1,43 @@
+-- Laws of a text in front of a buffer.
+use Prim.Native.Nat.{ℕ, _<_, _≤_}
+use mathlib.Core.List.{List, [], _∷_, _++_, append-assoc}
+use mathlib.Core.Path.{_≡_, refl, sym, _∙_, ap}
+use native.Mathlib.Omega.{arith}
+use native.Mathlib.Numerals.{add-one}
+use lib.ListN.{length, set, length-append}
+use lib.Seq.{drop-cons, set-at}
+use borrow.Author.Tests.{lt-ltb, le-ltb}
+use Rattle.lines.specs.Put.{writtenOf, front, putOf, leftOf, PutIs}
+use Rattle.lines.specs.declared.writer.Put.{Put}
+use Rattle.lines.specs.declared.writer.Put.the-variants.{Wrote, Short}
+
+pub put-short : (t o : List ℕ) → length o < length t → PutIs t o o Short
+unfolding putOf leftOf
+put-short t o h = record { answer = simp (lt-ltb _ _ h, putOf); bytes = simp (lt-ltb _ _ h, leftOf) }
+
+pub put-fits : (t o p : List ℕ) (n : ℕ) → length t ≤ length o → n ≡ length t → p ≡ front t o → PutIs t o p (Wrote n)
+unfolding putOf leftOf
+put-fits t o p n h e q = record { answer = simp (le-ltb _ _ h, putOf) (ap Wrote e); bytes = simp (le-ltb _ _ h, leftOf) q }
+
+-- a text that fits is in front
+pub put-done : (t o p : List ℕ) (r : Put) → length t ≤ length o → PutIs t o p r → (writtenOf r ≡ length t) × (p ≡ front t o)
+unfolding putOf leftOf
+put-done t o p r h i =
+    let e : putOf t o ≡ Wrote (length t) = simp (le-ltb _ _ h, putOf) in
+    let f : leftOf t o ≡ front t o = simp (le-ltb _ _ h, leftOf) in
+    (ap writtenOf (i .answer ∙ e), i .bytes ∙ f)
+
+-- one byte more
+pub front-one : (b : ℕ) (o : List ℕ) → 0 < length o → set o 0 b ≡ front (b ∷ []) o
+unfolding front
+front-one b [] h = absurd (omega arith)
+front-one b (x ∷ o) h = refl
+
+pub front-more : (t : List ℕ) (b : ℕ) (o : List ℕ) → length t < length o → set (front t o) (length t) b ≡ front (t ++ b ∷ []) o
+unfolding front
+front-more t b o h =
+    rw (drop-cons o (length t) 0, length-append, add-one) (set-at t _ _ b (length t) refl ∙ sym (append-assoc t (b ∷ []) _))
+
+-- the same where the text and the buffer are known by equations
+pub front-next : (t u : List ℕ) (b : ℕ) (o p : List ℕ) (n : ℕ) → u ≡ t ++ b ∷ [] → n ≡ length t → p ≡ front t o → length t < length o → set p n b ≡ front u o
+front-next t u b o p n e k q h = rw (e, k, q) (front-more t b o h)

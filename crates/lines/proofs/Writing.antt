@@ -1,0 +1,76 @@
+-- A text that is written piece by piece to the front of a buffer.
+use Prim.Native.Nat.{ℕ, _+_, _-_, _<_, _≤_}
+use mathlib.Core.List.{List, [], _∷_, _++_, append-assoc, append-nil}
+use mathlib.Core.Path.{_≡_, refl, sym, _∙_, ap, subst}
+use native.Mathlib.Omega.{arith}
+use native.Mathlib.Nat.{zero-add}
+use native.Mathlib.Numerals.{add-one}
+use lib.ListN.{length, getD, take, drop, set, length-append, length-drop, drop-of-length-le}
+use lib.Seq.{drop-drop, drop-at, take-at, take-add, drop-cons, take-length, length-take-le, take-append-seam, drop-append-seam, set-split}
+use Rattle.lines.specs.Put.{front}
+use Rattle.lines.proofs.Parts.{rest-all}
+
+-- one element more
+pub drop-next : (l : List ℕ) (i : ℕ) → i < length l → drop i l ≡ getD l i 0 ∷ drop (i + 1) l
+drop-next l i h = rw add-one (drop-cons l i 0 h)
+
+-- of the text t the first at bytes are written over the buffer o, and u is left to write
+pub record Writing (t o out : List ℕ) (at : ℕ) (u : List ℕ) : Type 0 where
+  pub room : length t ≤ length o
+  pub count : at + length u ≡ length t
+  pub left : drop at t ≡ u
+  pub now : out ≡ take at t ++ drop at o
+
+pub writing-start : (t o : List ℕ) → length t ≤ length o → Writing t o o 0 t
+writing-start t o h = record { room = h; count = omega arith; left = refl; now = refl }
+
+module _ {t o out u : List ℕ} {at : ℕ} where
+  pub writing-length : Writing t o out at u → length out ≡ length o
+  writing-length w =
+      let e : length out ≡ length (take at t) + length (drop at o) = ap length (w .now) ∙ length-append (take at t) (drop at o) in
+      omega (arith, e, length-take-le at t (omega (arith, w .count)), length-drop at o)
+
+  pub writing-as : {u′ : List ℕ} → u ≡ u′ → Writing t o out at u → Writing t o out at u′
+  writing-as e w = subst (λ (l : List ℕ). Writing t o out at l) e w
+
+  pub writing-room : Writing t o out at u → at + length u ≤ length out
+  writing-room w = omega (arith, writing-length w, w .count, w .room)
+
+  pub writing-done : Writing t o out at u → length u ≡ 0 → (at ≡ length t) × (out ≡ front t o)
+  unfolding front
+  writing-done w h =
+      let e : at ≡ length t = omega (arith, w .count) in
+      (e, w .now ∙ rw e (ap (λ (l : List ℕ). l ++ drop (length t) o) (take-length t)))
+
+-- a piece p written to `&mut out[at..]`
+pub writing-piece : {t o out : List ℕ} {at : ℕ} (p u : List ℕ) → Writing t o out at (p ++ u) → Writing t o (take at out ++ front p (drop at out)) (at + length p) u
+unfolding front
+writing-piece {t} {o} {out} {at} p u w =
+    let l : length (take at t) ≡ at = length-take-le at t (omega (arith, w .count)) in
+    let a : take at out ≡ take at t = ap (take at) (w .now) ∙ take-at (take at t) (drop at o) at l in
+    let d : drop at out ≡ drop at o = ap (drop at) (w .now) ∙ drop-at (take at t) (drop at o) at l in
+    let k : take (length p) (drop at t) ≡ p = ap (take (length p)) (w .left) ∙ take-append-seam p u in
+    record {
+      room = w .room;
+      count = omega (arith, w .count, length-append p u);
+      left = sym (drop-drop (length p) at t) ∙ ap (drop (length p)) (w .left) ∙ drop-append-seam p u;
+      now = rw (a, d, drop-drop (length p) at o, take-add at (length p) t, k) (sym (append-assoc (take at t) p _));
+    }
+
+-- the same as the borrow checker has it: ys is what `&mut out[at..]` held last
+pub writing-part : {t o out : List ℕ} {at : ℕ} (p u ys : List ℕ) (n : ℕ) → Writing t o out at (p ++ u) → ys ≡ front p (take (length out - at) (drop at out)) → n ≡ length p
+    → Writing t o (take at out ++ (ys ++ drop (length out - at) (drop at out))) (at + n) u
+writing-part {t} {o} {out} {at} p u ys n w f e =
+    let k : drop (length out - at) (drop at out) ≡ [] = drop-of-length-le (drop at out) {i = length out - at} (omega (arith, length-drop at out)) in
+    rw (e, k, append-nil ys, f, rest-all at out) (writing-piece p u w)
+
+pub writing-byte : {t o out : List ℕ} {at : ℕ} (b : ℕ) (u : List ℕ) → Writing t o out at (b ∷ u) → Writing t o (set out at b) (at + 1) u
+unfolding front
+writing-byte {t} {o} {out} {at} b u w =
+    let e : set out at b ≡ take at out ++ b ∷ drop 1 (drop at out) =
+    set-split out at b (omega (arith, writing-room w)) ∙ rw (drop-drop 1 at out, add-one) refl in
+    rw e (writing-piece (b ∷ []) u w)
+
+-- the first piece, written to `out` as a whole
+pub writing-first : {t o : List ℕ} (p u ys : List ℕ) (n : ℕ) → Writing t o o 0 (p ++ u) → ys ≡ front p o → n ≡ length p → Writing t o ys n u
+writing-first {t} {o} p u ys n w f e = rw (f, e, ← zero-add (length p)) (writing-piece p u w)

@@ -1,0 +1,15 @@
+use native.Mathlib.Omega.{arith}
+use Rattle.lines.proofs.Puts.{put-short, put-fits}
+use borrow.Author.Needs.{needs}
+use Rattle.lines.proofs.writer.put_number.Statement.{statement}
+use Rattle.lines.proofs.writer.put_number.Tie as tie
+
+returns : tie.Need-returns
+returns c = put-short _ _ (omega (arith, c .before .width .ensures .0))
+
+returns-2 : tie.Need-returns-2
+returns-2 c = let f = c .before .before .fill-number in put-fits _ _ _ _ (omega (arith, c .before .before .before .before .before .width .ensures .0)) (f .ensures .0) (f .ensures .1)
+
+pub put-number-spec : {M : Type 1} → statement M
+put-number-spec =
+    tie.close (tie.spec (λ c κs. search needs) returns (λ c κs. search needs) (λ c. search needs) returns-2)

@@ -1,0 +1,9 @@
+pub mod Bytes
+pub mod Number
+pub mod Decimal
+pub mod Parts
+pub mod Line
+pub mod Place
+pub mod LineText
+pub mod Put
+pub mod Steps

@@ -1,0 +1,107 @@
+// A line at a place of a text: its word, and its numbers in their ranges.
+ghost use mathlib.Core.Path.{_≡_};
+ghost use Prim.Native.Nat.{_≤_, min};
+ghost use Rattle.lines.specs.Line.{prefix, rangesOf};
+ghost use Rattle.lines.specs.Place.{fieldsAt, lineAt, foundIn};
+ghost use Rattle.lines.specs.Steps.{commaAt};
+use crate::numbers::Spelled;
+use crate::numbers::number_at;
+
+// Where a line ends, its line feed or the end of the text; or it is none.
+pub enum Place {
+    At(usize),
+    Nowhere,
+}
+
+// Whether s begins with w.
+fn begins(s: &[u8], w: &[u8]) -> bool
+    ensures { λ r. ⌜ r ≡ prefix (now (w .entry)) (now (s .entry)) ⌝ }
+{
+    let mut i = 0;
+    while i < w.len() {
+        if s.len() <= i {
+            return false;
+        }
+        if s[i] != w[i] {
+            return false;
+        }
+        i += 1;
+    }
+    true
+}
+
+// Whether a comma stands at e.
+fn comma(s: &[u8], e: usize) -> bool
+    ensures { λ r. ⌜ r ≡ commaAt (now (s .entry)) e ⌝ }
+{
+    if e < s.len() { s[e] == 44 } else { false }
+}
+
+fn at_most_six(n: usize) -> usize
+    ensures { λ r. ⌜ r ≡ min n 6 ⌝ }
+{
+    if n < 6 { n } else { 6 }
+}
+
+// The fields from at on to the line's end, n of them, into v.
+fn fields_at(
+    s: &[u8],
+    at: usize,
+    n: usize,
+    low: &[u64; 6],
+    high: &[u64; 6],
+    v: &mut [u64; 6],
+) -> Place
+    requires { ⌜ n ≤ 6 ⌝ }
+    ensures { λ r. ⌜ foundIn r n (now (v .exit)) ≡ fieldsAt (rangesOf n (now (low .entry)) (now (high .entry))) (now (s .entry)) at ⌝ }
+{
+    *v = [0; 6];
+    let mut i: usize = 0;
+    let mut p = at;
+    while i < n {
+        match number_at(s, p) {
+            Spelled::Ended(x, e) => {
+                if x < low[i] {
+                    return Place::Nowhere;
+                }
+                if high[i] < x {
+                    return Place::Nowhere;
+                }
+                v[i] = x;
+                i += 1;
+                if !comma(s, e) {
+                    if i < n {
+                        return Place::Nowhere;
+                    }
+                    return Place::At(e);
+                }
+                p = e + 1;
+            }
+            Spelled::Broken => {
+                return Place::Nowhere;
+            }
+        }
+    }
+    Place::Nowhere
+}
+
+// The line from at on with the word w and n fields, six at most, from low to high: its numbers go into v.
+pub fn line_at(
+    s: &[u8],
+    at: usize,
+    w: &[u8],
+    n: usize,
+    low: &[u64; 6],
+    high: &[u64; 6],
+    v: &mut [u64; 6],
+) -> Place
+    ensures { λ r. ⌜ foundIn r n (now (v .exit)) ≡ lineAt (record { word = now (w .entry); ranges = rangesOf (min n 6) (now (low .entry)) (now (high .entry)) }) (now (s .entry)) at ⌝ }
+{
+    if s.len() < at {
+        return Place::Nowhere;
+    }
+    if !begins(&s[at..], w) {
+        return Place::Nowhere;
+    }
+    fields_at(s, at + w.len(), at_most_six(n), low, high, v)
+}

@@ -1,0 +1,55 @@
+-- The orders of a batch that the audit accepts: the allowed ones are the orders of its items, all of them answer and end alike, and one of
+-- them is the merge's.
+use mathlib.Core.Bool.{Bool}
+use mathlib.Core.List.{List, map}
+use mathlib.Core.Logic.{_↔_}
+use mathlib.Core.Path.{_≡_, sym, subst, _∙_}
+use Prim.Native.Nat.{ℕ}
+use Rattle.ordering.specs.FirstFree.{Greedy}
+use Rattle.model.specs.Allowed.{Allowed}
+use Rattle.model.specs.Answers.{written, answerOf, loggedAnswer}
+use Rattle.model.specs.Audit.{audit}
+use Rattle.model.specs.Batch.{Batch, logOf}
+use Rattle.model.specs.Checks.{verdict}
+use Rattle.model.specs.Machine.{Machine}
+use Rattle.model.specs.Nodes.{Node, itemOf, nodes, mergeOf, OrderOf}
+use Rattle.model.specs.PlainRun.{Item, initial}
+use Rattle.model.specs.Precedes.{Leads}
+use Rattle.model.specs.Replay.{claim}
+use Rattle.model.proofs.Answers.{logged-answers}
+use Rattle.model.proofs.Audited.{Accepted, accepted-formed, audit-accepted}
+use Rattle.model.proofs.Closing.{closing}
+use Rattle.model.proofs.Placed.{place}
+use Rattle.model.proofs.Printed.{printed-order}
+use Rattle.model.proofs.Sound.{order-allowed, merge-is-order}
+use Rattle.model.proofs.Trace.{Formed}
+
+module _ (M : Machine) (opening : ℕ → M .Content) (known : ℕ → Bool) (b : Batch) (v : audit M opening known b ≡ verdict 0 0) where
+  accepted : Accepted M opening known b
+  accepted = audit-accepted M opening known b .0 v
+
+  formed : Formed b
+  formed = accepted-formed M opening known b accepted
+
+  pub allowed-orders : (xs : List Item) →
+      ((a : Allowed M opening b) × (a .order ≡ xs)) ↔ ((ys : List Node) × (map itemOf ys ≡ xs) × OrderOf b ys)
+  allowed-orders xs = (
+    λ h. let p = place M opening b formed (h .0) in (p .items, p .order ∙ h .1, p .placed),
+    λ h. let a = order-allowed M opening b formed (accepted .passes) (h .0) (h .2) in (a .0, a .1 ∙ h .1),
+  )
+
+  pub same-answers : (a : Allowed M opening b) (r k : ℕ) →
+      answerOf M r k (a .order) (initial M opening) ≡ loggedAnswer M (claim M (b .log) opening r k)
+  same-answers = logged-answers M opening b formed
+
+  pub same-contents : (a : Allowed M opening b) (o : ℕ) → a .final .contents o ≡ written M (opening o) (logOf o (b .log))
+  same-contents = closing M opening b formed
+
+  pub one-printed : (order : List Node) → Greedy (Leads b) (nodes b) order ↔ (order ≡ mergeOf b .0)
+  one-printed = printed-order b formed (accepted .passes .reported) (accepted .passes .merged)
+
+  pub printed-allowed : (order : List Node) → Greedy (Leads b) (nodes b) order →
+      OrderOf b order × ((a : Allowed M opening b) × (a .order ≡ map itemOf order))
+  printed-allowed order g =
+      let o : OrderOf b order = subst (OrderOf b) (sym (one-printed order .0 g)) (merge-is-order M opening b formed (accepted .passes)) in
+      (o, order-allowed M opening b formed (accepted .passes) order o)

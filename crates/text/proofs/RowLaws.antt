@@ -1,0 +1,109 @@
+-- Laws of records in an array of numbers.
+use Prim.Native.Nat.{ℕ, zero, suc, _+_, _*_, _%_, _<_, _≤_}
+use mathlib.Core.List.{List, [], _∷_, _++_, append-assoc}
+use mathlib.Core.Path.{_≡_, refl, sym, _∙_, ap}
+use native.Mathlib.Omega.{arith}
+use native.Mathlib.Numerals.{add-one}
+use native.Mathlib.Nat.{mod-eq-of-lt, mul-le-mul-right, suc-mul}
+use lib.ListN.{length, getD, take, drop, set, length-append, length-drop, take-append-drop}
+use lib.Seq.{sets, sets-eq, length-sets, take-at, drop-at, length-take-le, take-append-le, drop-append-le, getD-take, getD-drop}
+use Rattle.text.specs.Rows.{row, withRow, firsts}
+
+-- number j of row i stands at i times w plus j
+pub row-at : (w : ℕ) (a : List ℕ) (i j k : ℕ) → j < w → k ≡ i * w + j → getD (row w a i) j 0 ≡ getD a k 0
+unfolding row
+row-at w a i j k h e =
+    getD-take w (drop (i * w) a) j 0 h ∙ getD-drop (i * w) a j 0 ∙ ap (λ n. getD a n 0) (sym e)
+
+-- stores one behind the other, as code writes them
+pub sets-three : (a : List ℕ) (k u v w : ℕ) → set (set (set a k u) (k + 1) v) (k + 2) w ≡ sets a k (u ∷ v ∷ w ∷ [])
+sets-three a k u v w =
+    let p : k + 1 ≡ suc k = omega arith in
+    let q : k + 2 ≡ suc (suc k) = omega arith in
+    rw (p, q) refl
+
+pub sets-four : (a : List ℕ) (k u v w x : ℕ) →
+    set (set (set (set a k u) (k + 1) v) (k + 2) w) (k + 3) x ≡ sets a k (u ∷ v ∷ w ∷ x ∷ [])
+sets-four a k u v w x =
+    let p : k + 3 ≡ suc (suc (suc k)) = omega arith in
+    rw (sets-three a k u v w, p) refl
+
+pub sets-five : (a : List ℕ) (k u v w x y : ℕ) →
+    set (set (set (set (set a k u) (k + 1) v) (k + 2) w) (k + 3) x) (k + 4) y ≡ sets a k (u ∷ v ∷ w ∷ x ∷ y ∷ [])
+sets-five a k u v w x y =
+    let p : k + 4 ≡ suc (suc (suc (suc k))) = omega arith in
+    rw (sets-four a k u v w x, p) refl
+
+pub sets-six : (a : List ℕ) (k u v w x y z : ℕ) →
+    set (set (set (set (set (set a k u) (k + 1) v) (k + 2) w) (k + 3) x) (k + 4) y) (k + 5) z
+    ≡ sets a k (u ∷ v ∷ w ∷ x ∷ y ∷ z ∷ [])
+sets-six a k u v w x y z =
+    let p : k + 5 ≡ suc (suc (suc (suc (suc k)))) = omega arith in
+    rw (sets-five a k u v w x y, p) refl
+
+module _ {A : Type 0} where
+  pub firsts-length : (f : ℕ → A) (n : ℕ) → length (firsts f n) ≡ n
+  unfolding firsts
+  firsts-length f zero = refl
+  firsts-length f (suc n) = length-append (firsts f n) (f n ∷ []) ∙ omega (arith, firsts-length f n)
+
+  pub firsts-same : (f g : ℕ → A) (n : ℕ) → ((i : ℕ) → i < n → f i ≡ g i) → firsts f n ≡ firsts g n
+  unfolding firsts
+  firsts-same f g zero h = refl
+  firsts-same f g (suc n) h =
+      let e = firsts-same f g n (λ (i : ℕ). λ (k : i < n). h i (omega (arith, k))) in
+      let d = h n (omega arith) in
+      λ i. e i ++ d i ∷ []
+
+  -- one record more
+  pub firsts-more : (f g : ℕ → A) (n : ℕ) (x : A) → ((i : ℕ) → i < n → f i ≡ g i) → f n ≡ x →
+      firsts f (n + 1) ≡ firsts g n ++ x ∷ []
+  unfolding firsts
+  firsts-more f g n x h e = rw add-one (λ i. firsts-same f g n h i ++ e i ∷ [])
+
+-- what lies before a place is not changed behind it
+front-same : (w j k : ℕ) (a b : List ℕ) → j + w ≤ k → k ≤ length a → take w (drop j (take k a ++ b)) ≡ take w (drop j a)
+front-same w j k a b h g =
+    let l : length (take k a) ≡ k = length-take-le k a g in
+    let d : drop j (take k a ++ b) ≡ drop j (take k a) ++ b = drop-append-le j (take k a) b (omega (arith, l)) in
+    let e : drop j (take k a ++ drop k a) ≡ drop j (take k a) ++ drop k a = drop-append-le j (take k a) (drop k a) (omega (arith, l)) in
+    let m : w ≤ length (drop j (take k a)) = omega (arith, length-drop j (take k a), l) in
+    ap (take w) d ∙ take-append-le w (drop j (take k a)) b m
+    ∙ sym (take-append-le w (drop j (take k a)) (drop k a) m) ∙ ap (take w) (sym e)
+    ∙ ap (λ t. take w (drop j t)) (take-append-drop k a)
+
+-- the row vs is put at place n
+module _ (w : ℕ) (a : List ℕ) (n : ℕ) (vs : List ℕ) (l : length vs ≡ w) (room : n * w + w ≤ length a) where
+  put-is : withRow w a n vs ≡ take (n * w) a ++ (vs ++ drop (n * w + length vs) a)
+  unfolding withRow
+  put-is =
+      sets-eq vs a (n * w) (omega (arith, l, room)) ∙ append-assoc (take (n * w) a) vs _
+
+  pub row-room : length (withRow w a n vs) ≡ length a
+  unfolding withRow
+  row-room = length-sets a (n * w) vs
+
+  pub row-put : row w (withRow w a n vs) n ≡ vs
+  unfolding row
+  row-put =
+      ap (λ t. take w (drop (n * w) t)) put-is
+      ∙ ap (take w) (drop-at (take (n * w) a) _ (n * w) (length-take-le (n * w) a (omega (arith, room))))
+      ∙ take-at vs _ w l
+
+  pub row-before : (i : ℕ) → i < n → row w (withRow w a n vs) i ≡ row w a i
+  unfolding row
+  row-before i h =
+      let m : suc i * w ≤ n * w = mul-le-mul-right w (omega arith) in
+      let k = suc-mul i w in
+      ap (λ t. take w (drop (i * w) t)) put-is
+      ∙ front-same w (i * w) (n * w) a _ (omega (arith, m, k)) (omega (arith, room))
+
+  -- read back as records, in a table of N places
+  pub rows-put : {A : Type 0} (F : List ℕ → A) (N : ℕ) → n < N →
+      firsts (λ i. F (row w (withRow w a n vs) (i % N))) (n + 1) ≡ firsts (λ i. F (row w a (i % N))) n ++ F vs ∷ []
+  rows-put F N h =
+      firsts-more (λ i. F (row w (withRow w a n vs) (i % N))) (λ i. F (row w a (i % N))) n (F vs)
+      (λ (i : ℕ). λ (k : i < n).
+      let e : i % N ≡ i = mod-eq-of-lt (omega (arith, k, h)) in
+      ap F (ap (row w (withRow w a n vs)) e ∙ row-before i k ∙ ap (row w a) (sym e)))
+      (ap F (ap (row w (withRow w a n vs)) (mod-eq-of-lt h) ∙ row-put))

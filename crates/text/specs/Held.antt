@@ -1,0 +1,114 @@
+-- What the arrays of a text that was read stand for, and what the readers promise.
+use Prim.Native.Nat.{ℕ, _%_, _≤_, _<_}
+use mathlib.Core.List.{List, []}
+use mathlib.Core.Bool.{cond}
+use mathlib.Core.Path.{_≡_}
+use lib.ListN.{length, getD, take, drop}
+use lib.Dec.{eqb, ltb}
+use Rattle.text.specs.Text.{Read, readable, unreadable}
+use Rattle.text.specs.Programs.{readPrograms}
+use Rattle.text.specs.Trace.{requestFrom, responseFrom, readTrace}
+use Rattle.text.specs.Report.{Report, ofFrom, entryFrom, readReport}
+use Rattle.text.specs.Schedule.{arriveFrom, readSchedule}
+use Rattle.text.specs.Rows.{row, firsts}
+use Rattle.text.specs.declared.kinds.Lines.{Lines}
+use Rattle.text.specs.declared.kinds.Lines.the-variants.{Readable, Unreadable}
+use Rattle.text.specs.declared.programs.Instr.{Instr}
+use Rattle.text.specs.declared.programs.Program.{Program}
+use Rattle.text.specs.declared.programs.Programs.{Programs}
+use Rattle.text.specs.declared.trace.Event.{Event}
+use Rattle.text.specs.declared.schedule.Move.{Move}
+use Rattle.text.specs.declared.schedule.Move.the-variants.{Turn}
+use Rattle.text.specs.declared.report.Of.{Of}
+use Rattle.text.specs.declared.report.Entry.{Entry}
+use Rattle.text.specs.declared.report.ReportLines.{ReportLines}
+use Rattle.text.specs.declared.report.ReportLines.the-variants.{Counts, BadLine}
+
+-- the number of lines that were read
+abbrev pub linesIn : Lines → ℕ
+linesIn (Readable n) = n
+linesIn (Unreadable line) = 0
+
+-- the first n records of a table; or the unreadable line
+unfoldable pub readIn : {A : Type 0} → (ℕ → A) → Lines → Read (List A)
+readIn f (Readable n) = readable (firsts f n)
+readIn f (Unreadable line) = unreadable line
+
+-- an event's row: 0 for a request or 1 for a response, and the line's numbers
+abbrev pub eventFrom : List ℕ → Event
+eventFrom v = cond (eqb (getD v 0 0) 0) (requestFrom (drop 1 v)) (responseFrom (drop 1 v))
+
+unfoldable pub eventAt : List ℕ → ℕ → Event
+eventAt events i = eventFrom (row 5 events (i % 128))
+
+pub record TraceIs (s : List ℕ) (r : Lines) (events : List ℕ) : Type 0 where
+  pub read : readIn (eventAt events) r ≡ readTrace s
+  pub few : linesIn r ≤ 128
+  pub room : length events ≡ 640
+
+-- an `of` line's row is its three numbers, a `log` line's its six
+unfoldable pub ofAt : List ℕ → ℕ → Of
+ofAt ofs i = ofFrom (row 3 ofs (i % 64))
+
+unfoldable pub entryAt : List ℕ → ℕ → Entry
+entryAt logs i = entryFrom (row 6 logs (i % 1024))
+
+unfoldable pub reportIn : List ℕ → List ℕ → ReportLines → Read Report
+reportIn ofs logs (Counts m n) = readable (record { ofs = firsts (ofAt ofs) m; log = firsts (entryAt logs) n })
+reportIn ofs logs (BadLine line) = unreadable line
+
+abbrev pub ofsIn : ReportLines → ℕ
+ofsIn (Counts m n) = m
+ofsIn (BadLine line) = 0
+
+abbrev pub logsIn : ReportLines → ℕ
+logsIn (Counts m n) = n
+logsIn (BadLine line) = 0
+
+pub record ReportIs (s : List ℕ) (r : ReportLines) (ofs logs : List ℕ) : Type 0 where
+  pub read : reportIn ofs logs r ≡ readReport s
+  pub few : ofsIn r ≤ 64
+  pub fewer : logsIn r ≤ 1024
+  pub room : length ofs ≡ 192
+  pub roomy : length logs ≡ 6144
+
+-- a schedule's line is kept as one number: the rid of a turn, or 65,536 and the arrival's row
+abbrev pub moveFrom : List ℕ → ℕ → Move
+moveFrom arrivals code = cond (ltb code 65536) (Turn code) (arriveFrom (row 4 arrivals (code % 64)))
+
+unfoldable pub moveAt : List ℕ → List ℕ → ℕ → Move
+moveAt moves arrivals i = moveFrom arrivals (getD moves i 0)
+
+pub record ScheduleIs (s : List ℕ) (r : Lines) (moves arrivals : List ℕ) : Type 0 where
+  pub read : readIn (moveAt moves arrivals) r ≡ readSchedule s
+  pub few : linesIn r ≤ 9362
+  pub room : length moves ≡ 9362
+  pub roomy : length arrivals ≡ 256
+
+-- what stands past the end of a program's array, and of the table
+abbrev pub noInstr : Instr
+noInstr = record { code = 0; a = 0; b = 0; c = 0 }
+
+abbrev pub noProgram : Program
+noProgram = record { number = 0; n = 0; code = [] }
+
+-- a program with just its n instructions
+abbrev pub trimmed : Program → Program
+trimmed p = record { number = p .number; n = p .n; code = take (p .n) (p .code) }
+
+unfoldable pub programAt : List Program → ℕ → Program
+programAt table i = trimmed (getD table i noProgram)
+
+unfoldable pub programsIn : Programs → Read (List Program)
+programsIn r = cond (r .ok) (readable (firsts (programAt (r .table)) (r .n))) (unreadable (r .line))
+
+-- n is at most 64, and nothing stands behind the n instructions
+pub record Bounded (p : Program) : Type 0 where
+  pub few : p .n ≤ 64
+  pub blank : (j : ℕ) → p .n ≤ j → getD (p .code) j noInstr ≡ noInstr
+
+pub record ProgramsIs (s : List ℕ) (r : Programs) : Type 0 where
+  pub read : programsIn r ≡ readPrograms s
+  pub few : r .n ≤ 16
+  pub bounded : (i : ℕ) → i < r .n → Bounded (getD (r .table) i noProgram)
+  pub room : length (r .table) ≡ 16

@@ -1,0 +1,9 @@
+pub mod Text
+pub mod Formats
+pub mod Programs
+pub mod Trace
+pub mod Report
+pub mod Schedule
+pub mod Rows
+pub mod Held
+pub mod Steps

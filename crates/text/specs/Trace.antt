@@ -1,0 +1,45 @@
+-- The trace: requests and responses in time order, at most 64 of each.
+use Prim.Native.Nat.{ℕ}
+use mathlib.Core.List.{List, [], _∷_, _++_}
+use mathlib.Core.Option.{Option}
+use mathlib.Core.Bool.{Bool, true, false, not}
+use lib.ListN.{getD}
+use Rattle.lines.specs.LineText.{lineText}
+use Rattle.text.specs.Text.{Read, Kind, within, count, linesText, readText}
+use Rattle.text.specs.Formats.{requestLine, responseLine}
+use Rattle.text.specs.declared.trace.Event.{Event}
+use Rattle.text.specs.declared.trace.Event.the-variants.{Request, Response}
+
+-- the numbers of a `request` and of a `response` line
+abbrev pub requestFrom : List ℕ → Event
+requestFrom v = Request (getD v 0 0) (getD v 1 0) (getD v 2 0) (getD v 3 0)
+
+abbrev pub responseFrom : List ℕ → Event
+responseFrom v = Response (getD v 0 0) (getD v 1 0) (getD v 2 0)
+
+abbrev pub isRequest : Event → Bool
+isRequest (Request rid prog a b) = true
+isRequest (Response rid status value) = false
+
+abbrev pub isResponse : Event → Bool
+isResponse e = not (isRequest e)
+
+unfoldable pub addRequest : List Event → List ℕ → Option (List Event)
+addRequest es v = within (count isRequest es) 64 (es ++ requestFrom v ∷ [])
+
+unfoldable pub addResponse : List Event → List ℕ → Option (List Event)
+addResponse es v = within (count isResponse es) 64 (es ++ responseFrom v ∷ [])
+
+abbrev pub traceKinds : List (Kind (List Event))
+traceKinds = record { format = requestLine; add = addRequest } ∷ record { format = responseLine; add = addResponse } ∷ []
+
+unfoldable pub readTrace : List ℕ → Read (List Event)
+readTrace s = readText traceKinds [] s
+
+-- the trace as bytes
+unfoldable pub eventText : Event → List ℕ
+eventText (Request rid prog a b) = lineText (requestLine .word) (rid ∷ prog ∷ a ∷ b ∷ [])
+eventText (Response rid status value) = lineText (responseLine .word) (rid ∷ status ∷ value ∷ [])
+
+unfoldable pub traceText : List Event → List ℕ
+traceText es = linesText eventText es
