@@ -163,7 +163,8 @@ broken = refl
 -- object does not write
 answers :
     answersFrom atStart
+    (map (λ o. record { rid = 0; num = 0; op = o })
     (oper 0 7 0 4 ∷ oper 0 6 0 0 ∷ oper 1 6 0 0 ∷ oper 0 7 5 6 ∷ oper 0 6 9 0 ∷ oper 8 9 2 7 ∷ oper 8 8 2 0 ∷ oper 8 8 3 0 ∷ oper 9 8 2 0
-    ∷ oper 8 9 2 0 ∷ oper 8 8 2 0 ∷ oper 0 9 0 1 ∷ oper 0 6 0 0 ∷ oper 8 9 2 1 ∷ oper 8 7 2 3 ∷ oper 8 8 2 0 ∷ [])
+    ∷ oper 8 9 2 0 ∷ oper 8 8 2 0 ∷ oper 0 9 0 1 ∷ oper 0 6 0 0 ∷ oper 8 9 2 1 ∷ oper 8 7 2 3 ∷ oper 8 8 2 0 ∷ []))
     ≡ 0 ∷ 4 ∷ 0 ∷ 0 ∷ 6 ∷ 0 ∷ 7 ∷ 0 ∷ 0 ∷ 0 ∷ 0 ∷ 6 ∷ 6 ∷ 0 ∷ 1 ∷ 1 ∷ []
 answers = refl

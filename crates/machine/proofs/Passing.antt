@@ -9,11 +9,13 @@ use lib.Dec.{eqb, ltb}
 use lib.ListN.{getD, set, length, replicate, length-set, length-append, length-replicate, getD-replicate}
 use lib.Seq.{sets, getD-set-same, getD-set-other}
 use borrow.Author.Tests.{lt-ltb, le-ltb, ltb-true, ltb-false, eqb-true, eqb-false, eq-eqb, ne-eqb}
+use Rattle.text.specs.declared.report.Entry.{Entry}
 use Rattle.text.specs.declared.report.Op.{Op}
+use Rattle.text.specs.Rows.{firsts}
 use Rattle.machine.specs.declared.objects.Cell.{Cell}
 use Rattle.machine.specs.declared.objects.Cell.the-variants.{Put}
 use Rattle.machine.specs.Objects.{Content, register, reads, apply, valueOf, atStart}
-use Rattle.machine.specs.Logs.{nearest, writes, firstOps, after, afterAll, answersFrom}
+use Rattle.machine.specs.Logs.{ops, nearest, writes, after, afterAll, answersFrom}
 use Rattle.machine.specs.Index.{bucketOf, walk, registerLeft, stored, Performed, performed, performOf}
 use Rattle.machine.proofs.Tests.{byBool}
 use Rattle.machine.proofs.Nearest.{register-nearest, store-nearest}
@@ -32,10 +34,13 @@ pub record Registers (line : ℕ → Op) (n : ℕ) (registers : List ℕ) : Type
   pub value : (object : ℕ) → object < 8 → getD registers object 0 ≡ valueOf (nearest line object 0 n)
 
 -- the answer of line n's operation
-abbrev pub answerAt : (ℕ → Op) → ℕ → ℕ
-answerAt line n = apply (line n) (afterAll atStart (firstOps line n) (line n .object)) .0
+abbrev pub answerAt : (ℕ → Entry) → ℕ → ℕ
+answerAt lines n = apply (lines n .op) (afterAll atStart (firsts lines n) (lines n .op .object)) .0
 
-module _ (line : ℕ → Op) (n : ℕ) where
+module _ (lines : ℕ → Entry) (n : ℕ) where
+  abbrev line : ℕ → Op
+  line = ops lines
+
   abbrev x : Op
   x = line n
 
@@ -51,7 +56,7 @@ module _ (line : ℕ → Op) (n : ℕ) where
   lastPut-next b = rw add-one
 
   -- the answer, where x's object holds c
-  answered : (c : Content) → afterAll atStart (firstOps line n) (x .object) ≡ c → apply x c .0 ≡ answerAt line n
+  answered : (c : Content) → afterAll atStart (firsts lines n) (x .object) ≡ c → apply x c .0 ≡ answerAt lines n
   answered c d = ap (λ c. apply x c .0) (sym d)
 
   -- a store's line leaves the registers, a line that puts nothing leaves the index
@@ -78,8 +83,8 @@ module _ (line : ℕ → Op) (n : ℕ) where
     own : getD registers (x .object % 8) 0 ≡ valueOf (nearest line (x .object) 0 n)
     own = let m : x .object % 8 ≡ x .object = omega arith in rw m (g .value (x .object) h)
 
-    register-answer : apply x (register (getD registers (x .object % 8) 0)) .0 ≡ answerAt line n
-    register-answer = answered (register (getD registers (x .object % 8) 0)) (register-nearest line n (x .object) 0 h ∙ ap register (sym own))
+    register-answer : apply x (register (getD registers (x .object % 8) 0)) .0 ≡ answerAt lines n
+    register-answer = answered (register (getD registers (x .object % 8) 0)) (register-nearest lines n (x .object) 0 h ∙ ap register (sym own))
 
     abbrev left : ℕ
     left = registerLeft x (getD registers (x .object % 8) 0)
@@ -129,14 +134,14 @@ module _ (line : ℕ → Op) (n : ℕ) where
         ap valueOf (walk-nearest line (x .object) (x .key) 1024 (getD heads b 0) befores h (omega (arith, last)) chained
         ∙ ap (nearest line (x .object) (x .key)) last ∙ sym (nearest-last line (x .object) (x .key) n h))
 
-    get-answer : eqb (x .kind) 9 ≡ false → valueOf (walk line befores (x .object) (x .key) 1024 (getD heads b 0)) ≡ answerAt line n
-    get-answer k = walked ∙ (rw k at (answered _ (store-nearest line n (x .object) h)))
+    get-answer : eqb (x .kind) 9 ≡ false → valueOf (walk line befores (x .object) (x .key) 1024 (getD heads b 0)) ≡ answerAt lines n
+    get-answer k = walked ∙ (rw k at (answered _ (store-nearest lines n (x .object) h)))
 
     get-indexed : eqb (x .kind) 9 ≡ false → Indexed line (n + 1) heads befores
     get-indexed k = index-kept (λ c. rw (le-ltb (x .object) 8 h, k)) heads befores g
 
-    put-answer : eqb (x .kind) 9 ≡ true → 0 ≡ answerAt line n
-    put-answer k = rw k at (answered _ (store-nearest line n (x .object) h))
+    put-answer : eqb (x .kind) 9 ≡ true → 0 ≡ answerAt lines n
+    put-answer k = rw k at (answered _ (store-nearest lines n (x .object) h))
 
     put-bucket : eqb (x .kind) 9 ≡ true → (c : ℕ) → putsIn c x ≡ eqb b c
     put-bucket k c = rw (le-ltb (x .object) 8 h, k)
@@ -163,39 +168,39 @@ module _ (line : ℕ → Op) (n : ℕ) where
         }
 
 -- line n performed: its answer, and the objects after it
-pub record Passed (line : ℕ → Op) (n : ℕ) (p : Performed) : Type 0 where
-  pub answers : p .answer ≡ answerAt line n
-  pub registers : Registers line (n + 1) (p .registers)
-  pub index : Indexed line (n + 1) (p .heads) (p .befores)
+pub record Passed (lines : ℕ → Entry) (n : ℕ) (p : Performed) : Type 0 where
+  pub answers : p .answer ≡ answerAt lines n
+  pub registers : Registers (ops lines) (n + 1) (p .registers)
+  pub index : Indexed (ops lines) (n + 1) (p .heads) (p .befores)
 
-performs : (line : ℕ → Op) (n : ℕ) (registers heads befores : List ℕ) → n < 1024 → Registers line n registers → Indexed line n heads befores
-    → Passed line n (performOf line n registers heads befores)
-performs line n registers heads befores r g i =
-    byBool (ltb (line n .object) 8)
-    (λ t. let h = ltb-true (line n .object) 8 t in
+performs : (lines : ℕ → Entry) (n : ℕ) (registers heads befores : List ℕ) → n < 1024 → Registers (ops lines) n registers → Indexed (ops lines) n heads befores
+    → Passed lines n (performOf (ops lines) n registers heads befores)
+performs lines n registers heads befores r g i =
+    byBool (ltb (lines n .op .object) 8)
+    (λ t. let h = ltb-true (lines n .op .object) 8 t in
     rw t (record {
-      answers = register-answer line n h registers g;
-      registers = register-set line n h registers g;
-      index = register-index line n h registers g heads befores i;
+      answers = register-answer lines n h registers g;
+      registers = register-set lines n h registers g;
+      index = register-index lines n h registers g heads befores i;
     }))
-    (λ t. let h = ltb-false (line n .object) 8 t in
-    rw t (byBool (eqb (line n .kind) 9)
+    (λ t. let h = ltb-false (lines n .op .object) 8 t in
+    rw t (byBool (eqb (lines n .op .kind) 9)
     (λ k. let m : n % 1024 ≡ n = omega arith in
     rw (k, m) (record {
-      answers = put-answer line n h r heads befores i k;
-      registers = registers-kept line n h registers g;
-      index = put-indexed line n h r heads befores i k;
+      answers = put-answer lines n h r heads befores i k;
+      registers = registers-kept lines n h registers g;
+      index = put-indexed lines n h r heads befores i k;
     }))
     (λ k. rw k (record {
-      answers = get-answer line n h r heads befores i k;
-      registers = registers-kept line n h registers g;
-      index = get-indexed line n h r heads befores i k;
+      answers = get-answer lines n h r heads befores i k;
+      registers = registers-kept lines n h registers g;
+      index = get-indexed lines n h r heads befores i k;
     }))))
 
 -- the same of the arrays that the code has made
-module _ (line : ℕ → Op) (n : ℕ) (rs hs bs rs′ hs′ bs′ : List ℕ) (v : ℕ) (e : performed rs′ (stored v hs′ bs′) ≡ performOf line n rs hs bs) where
-  pub passed : n < 1024 → Registers line n rs → Indexed line n hs bs → Passed line n (performed rs′ (stored v hs′ bs′))
-  passed r g i = subst (Passed line n) (sym e) (performs line n rs hs bs r g i)
+module _ (lines : ℕ → Entry) (n : ℕ) (rs hs bs rs′ hs′ bs′ : List ℕ) (v : ℕ) (e : performed rs′ (stored v hs′ bs′) ≡ performOf (ops lines) n rs hs bs) where
+  pub passed : n < 1024 → Registers (ops lines) n rs → Indexed (ops lines) n hs bs → Passed lines n (performed rs′ (stored v hs′ bs′))
+  passed r g i = subst (Passed lines n) (sym e) (performs lines n rs hs bs r g i)
 
 -- before the first line
 pub registers-start : (line : ℕ → Op) → Registers line 0 (replicate 8 0)
@@ -213,27 +218,27 @@ index-start line =
     }
 
 -- one answer more
-answers-snoc : (cs : ℕ → Content) (os : List Op) (o : Op)
-    → answersFrom cs (os ++ o ∷ []) ≡ answersFrom cs os ++ apply o (afterAll cs os (o .object)) .0 ∷ []
-answers-snoc cs [] o = refl
-answers-snoc cs (x ∷ os) o = ap (λ vs. apply x (cs (x .object)) .0 ∷ vs) (answers-snoc (after cs x) os o)
+answers-snoc : (cs : ℕ → Content) (ls : List Entry) (l : Entry)
+    → answersFrom cs (ls ++ l ∷ []) ≡ answersFrom cs ls ++ apply (l .op) (afterAll cs ls (l .op .object)) .0 ∷ []
+answers-snoc cs [] l = refl
+answers-snoc cs (x ∷ ls) l = ap (λ vs. apply (x .op) (cs (x .op .object)) .0 ∷ vs) (answers-snoc (after cs (x .op)) ls l)
 
 sets-snoc : (l : List ℕ) (k : ℕ) (vs : List ℕ) (v : ℕ) → sets l k (vs ++ v ∷ []) ≡ set (sets l k vs) (k + length vs) v
 sets-snoc l k [] v = let e : k + 0 ≡ k = omega arith in rw e
 sets-snoc l k (w ∷ vs) v = let e : k + suc (length vs) ≡ suc k + length vs = omega arith in rw e (sets-snoc (set l k w) (suc k) vs v)
 
-answers-length : (line : ℕ → Op) (n : ℕ) → length (answersFrom atStart (firstOps line n)) ≡ n
-unfolding firstOps
-answers-length line zero = refl
-answers-length line (suc n) =
-    ap length (answers-snoc atStart (firstOps line n) (line n))
-    ∙ length-append (answersFrom atStart (firstOps line n)) _ ∙ omega (arith, answers-length line n)
+answers-length : (lines : ℕ → Entry) (n : ℕ) → length (answersFrom atStart (firsts lines n)) ≡ n
+unfolding firsts
+answers-length lines zero = refl
+answers-length lines (suc n) =
+    ap length (answers-snoc atStart (firsts lines n) (lines n))
+    ∙ length-append (answersFrom atStart (firsts lines n)) _ ∙ omega (arith, answers-length lines n)
 
-pub answers-next : (line : ℕ → Op) (n : ℕ) (l out : List ℕ) (v : ℕ)
-    → out ≡ sets l 0 (answersFrom atStart (firstOps line n)) → v ≡ answerAt line n
-    → set out n v ≡ sets l 0 (answersFrom atStart (firstOps line (n + 1)))
-unfolding firstOps
-answers-next line n l out v d e =
-    let z : 0 + length (answersFrom atStart (firstOps line n)) ≡ n = omega (arith, answers-length line n) in
-    let w = answersFrom atStart (firstOps line n) in
-    rw (add-one, answers-snoc atStart (firstOps line n) (line n), sets-snoc l 0 w (answerAt line n), z, d, e)
+pub answers-next : (lines : ℕ → Entry) (n : ℕ) (l out : List ℕ) (v : ℕ)
+    → out ≡ sets l 0 (answersFrom atStart (firsts lines n)) → v ≡ answerAt lines n
+    → set out n v ≡ sets l 0 (answersFrom atStart (firsts lines (n + 1)))
+unfolding firsts
+answers-next lines n l out v d e =
+    let z : 0 + length (answersFrom atStart (firsts lines n)) ≡ n = omega (arith, answers-length lines n) in
+    let w = answersFrom atStart (firsts lines n) in
+    rw (add-one, answers-snoc atStart (firsts lines n) (lines n), sets-snoc l 0 w (answerAt lines n), z, d, e)

@@ -9,19 +9,19 @@ use lib.ListN.{getD}
 use borrow.Author.Tests.{leb-true}
 use Rattle.text.specs.declared.programs.Instr.{Instr}
 use Rattle.text.specs.declared.programs.Program.{Program}
-use Rattle.machine.specs.Processes.{halt}
+use Rattle.text.specs.Held.{noInstr, noProgram}
 use Rattle.machine.proofs.Tests.{second}
-use Rattle.machine.specs.Rules.{bad, fine, instructions, programs, bodyOf, bodyKeeps, headKeeps, noProgram}
+use Rattle.machine.specs.Rules.{bad, fine, instructions, programs, bodyOf, bodyKeeps, headKeeps}
 
 module _ (p : List Instr) (n j line : ℕ) (h : j < n) where
   left : n - j ≡ suc (n - (j + 1))
   left = omega arith
 
-  pub next-line : bodyKeeps (getD p j halt) j n ≡ true → instructions (n - j) p n j line ≡ instructions (n - (j + 1)) p n (j + 1) (line + 1)
+  pub next-line : bodyKeeps (getD p j noInstr) j n ≡ true → instructions (n - j) p n j line ≡ instructions (n - (j + 1)) p n (j + 1) (line + 1)
   unfolding instructions
   next-line e = rw (left, e)
 
-  pub bad-line : bodyKeeps (getD p j halt) j n ≡ false → instructions (n - j) p n j line ≡ bad line
+  pub bad-line : bodyKeeps (getD p j noInstr) j n ≡ false → instructions (n - j) p n j line ≡ bad line
   unfolding instructions
   bad-line e = rw (left, e)
 

@@ -5,13 +5,13 @@ use mathlib.Core.List.{List, [], _∷_, _++_}
 use lib.ListN.{getD}
 use Rattle.text.specs.declared.programs.Instr.{Instr}
 use Rattle.text.specs.declared.programs.Program.{Program}
+use Rattle.text.specs.Held.{noProgram}
 use Rattle.model.specs.Machine.{Machine, op, stop}
 use Rattle.model.specs.Machine as model
 use Rattle.machine.specs.declared.processes.Next.{Next}
 use Rattle.machine.specs.declared.processes.Next.the-variants.{Operation, Reply, Cut}
 use Rattle.machine.specs.Instructions.{noLocal}
 use Rattle.machine.specs.Processes.{Advanced, advanced, firstLocals, advanceOf, resumed}
-use Rattle.machine.specs.Rules.{noProgram}
 use Rattle.machine.specs.Objects.{Content, apply, logged}
 
 -- a request: its program, its locals, its position, how many instructions it has carried out, and their positions

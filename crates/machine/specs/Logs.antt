@@ -1,42 +1,30 @@
 -- A report's log: what its lines leave in the objects, and what each line's operation answers.
-use Prim.Native.Nat.{ℕ, zero, suc, _+_, _*_, _%_}
+use Prim.Native.Nat.{ℕ, zero, suc}
 use mathlib.Core.Bool.{Bool, cond, _&&_}
-use mathlib.Core.List.{List, [], _∷_, _++_}
+use mathlib.Core.List.{List, [], _∷_}
 use lib.Dec.{eqb}
-use lib.ListN.{getD}
+use Rattle.text.specs.declared.report.Entry.{Entry}
 use Rattle.text.specs.declared.report.Op.{Op}
 use Rattle.machine.specs.declared.objects.Cell.{Cell}
 use Rattle.machine.specs.declared.objects.Cell.the-variants.{Never, Put}
 use Rattle.machine.specs.Objects.{Content, apply, isRegister, isWrite, isPut}
 
--- The operation of line i, where the lines stand as rows of six numbers: object, rid, num, kind, key, value.
--- There is room for 1,024 of them, and i counts modulo that.
-unfoldable pub opAt : List ℕ → ℕ → Op
-opAt logs i =
-    record {
-      object = getD logs (i % 1024 * 6) 0;
-      kind = getD logs (i % 1024 * 6 + 3) 0;
-      key = getD logs (i % 1024 * 6 + 4) 0;
-      value = getD logs (i % 1024 * 6 + 5) 0;
-    }
+-- the operation of each line
+abbrev pub ops : (ℕ → Entry) → ℕ → Op
+ops line i = line i .op
 
--- the first n lines
-unfoldable pub firstOps : (ℕ → Op) → (n : ℕ) → List Op
-firstOps line zero = []
-firstOps line (suc n) = firstOps line n ++ line n ∷ []
-
--- the objects after one operation, and after several
+-- the objects after an operation, and after the lines of a log
 abbrev pub after : (ℕ → Content) → Op → ℕ → Content
 after cs o object = cond (eqb (o .object) object) (apply o (cs (o .object)) .1) (cs object)
 
-abbrev pub afterAll : (ℕ → Content) → List Op → ℕ → Content
+abbrev pub afterAll : (ℕ → Content) → List Entry → ℕ → Content
 afterAll cs [] = cs
-afterAll cs (o ∷ os) = afterAll (after cs o) os
+afterAll cs (l ∷ ls) = afterAll (after cs (l .op)) ls
 
--- the answer of each operation, one done after the other
-abbrev pub answersFrom : (ℕ → Content) → List Op → List ℕ
+-- the answer of each line's operation, one done after the other
+abbrev pub answersFrom : (ℕ → Content) → List Entry → List ℕ
 answersFrom cs [] = []
-answersFrom cs (o ∷ os) = apply o (cs (o .object)) .0 ∷ answersFrom (after cs o) os
+answersFrom cs (l ∷ ls) = apply (l .op) (cs (l .op .object)) .0 ∷ answersFrom (after cs (l .op)) ls
 
 -- whether a line is a write of an object, of a store at the key: one of kind 7 on a register, whatever its key, or of kind 9 on a store
 abbrev pub writes : (object key : ℕ) → Op → Bool

@@ -6,6 +6,7 @@ use lib.Dec.{ltb}
 use lib.ListN.{getD, set}
 use lib.Seq.{sets}
 use Rattle.text.specs.declared.programs.Instr.{Instr}
+use Rattle.text.specs.Held.{noInstr}
 use Rattle.machine.specs.declared.instructions.Act.{Act}
 use Rattle.machine.specs.declared.instructions.Act.the-variants.{Goes, Asks, Replies}
 use Rattle.machine.specs.declared.processes.Next.{Next}
@@ -21,13 +22,10 @@ firstLocals a b = a ∷ b ∷ 0 ∷ 0 ∷ 0 ∷ 0 ∷ 0 ∷ 0 ∷ []
 abbrev pub limit : ℕ
 limit = 256
 
--- what stands past a program's end; the program rules keep a request from there
-abbrev pub halt : Instr
-halt = record { code = 0; a = 0; b = 0; c = 0 }
-
--- the instruction at a position; positions count modulo 64, the room for a program's instructions
+-- The instruction at a position. Positions count modulo 64, the room for a program's instructions; the program rules keep a request from
+-- what stands behind the last.
 abbrev pub instrAt : List Instr → ℕ → Instr
-instrAt p at = getD p (at % 64) halt
+instrAt p at = getD p (at % 64) noInstr
 
 -- a request that has gone on: its locals, where it stands and what it came to, and the positions of the instructions carried out on the way
 pub record Advanced : Type 0 where

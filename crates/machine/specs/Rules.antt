@@ -6,13 +6,13 @@ use lib.ListN.{getD, length}
 use lib.Dec.{leb, ltb, eqb}
 use Rattle.text.specs.declared.programs.Instr.{Instr}
 use Rattle.text.specs.declared.programs.Program.{Program}
+use Rattle.text.specs.Held.{noInstr, noProgram}
 use Rattle.machine.specs.declared.rules.Field.{Field}
 use Rattle.machine.specs.declared.rules.Field.the-variants.{Unused, Constant, Local, Register, Store, Target}
 use Rattle.machine.specs.declared.rules.Fields.{Fields}
 use Rattle.machine.specs.declared.rules.Ruling.{Ruling}
 use Rattle.machine.specs.declared.rules.Ruling.the-variants.{Kept, Broken}
 use Rattle.machine.specs.Codes.{codes}
-use Rattle.machine.specs.Processes.{halt}
 
 abbrev pub fields : (a b c : Field) → Fields
 fields a b c = record { a = a; b = b; c = c }
@@ -71,11 +71,7 @@ andThen (fine line) f = f line
 -- k instructions from instruction j of n on, the first of them at a line
 unfoldable pub instructions : (k : ℕ) → List Instr → (n j line : ℕ) → Scan
 instructions zero p n j line = fine line
-instructions (suc k) p n j line = onward (bodyKeeps (getD p j halt) j n) line (instructions k p n (j + 1) (line + 1))
-
--- what stands past the table's end
-abbrev pub noProgram : Program
-noProgram = record { number = 0; n = 0; code = [] }
+instructions (suc k) p n j line = onward (bodyKeeps (getD p j noInstr) j n) line (instructions k p n (j + 1) (line + 1))
 
 abbrev pub bodyOf : Program → ℕ → Scan
 bodyOf p line = instructions (p .n) (p .code) (p .n) 0 line

@@ -4,14 +4,17 @@ use crate::codes::PUT;
 use crate::codes::WRITE;
 use crate::least;
 use text::Op;
+use text::entry_at;
 ghost use mathlib.Core.Path.{_≡_};
 ghost use mathlib.Core.Bool.{_&&_};
 ghost use Prim.Native.Nat.{_%_, min};
 ghost use lib.Dec.{eqb};
 ghost use lib.ListN.{getD, set};
 ghost use lib.Seq.{sets};
+ghost use Rattle.text.specs.Held.{entryAt};
+ghost use Rattle.text.specs.Rows.{firsts};
 ghost use Rattle.machine.specs.Objects.{register, apply, valueOf, atStart};
-ghost use Rattle.machine.specs.Logs.{opAt, firstOps, answersFrom};
+ghost use Rattle.machine.specs.Logs.{ops, answersFrom};
 ghost use Rattle.machine.specs.Index.{bucketOf, walk, registerLeft, stored, onStore, performed, performOf};
 
 // What a store holds at a key.
@@ -21,15 +24,10 @@ pub enum Cell {
 }
 
 fn op_at(logs: &[u64; 6144], i: usize) -> Op
-    ensures { λ r. ⌜ r ≡ opAt (now (logs .entry)) i ⌝ }
+    ensures { λ r. ⌜ r ≡ ops (entryAt (now (logs .entry))) i ⌝ }
 {
-    let k = i % 1024 * 6;
-    Op {
-        object: logs[k],
-        kind: logs[k + 3],
-        key: logs[k + 4],
-        value: logs[k + 5],
-    }
+    let l = entry_at(logs, i);
+    l.op
 }
 
 fn bucket(object: u64, key: u64) -> usize
@@ -85,7 +83,7 @@ fn nearest_put(
     object: u64,
     key: u64,
 ) -> Cell
-    ensures { λ r. ⌜ r ≡ walk (opAt (now (logs .entry))) (now (befores .entry)) object key 1024 from ⌝ }
+    ensures { λ r. ⌜ r ≡ walk (ops (entryAt (now (logs .entry)))) (now (befores .entry)) object key 1024 from ⌝ }
 {
     let mut j = from;
     let mut left: usize = 1024;
@@ -112,7 +110,7 @@ fn on_store(
     befores: &mut [u16; 1024],
 ) -> u64
     ensures { λ r. ⌜ stored r (now (heads .exit)) (now (befores .exit))
-        ≡ onStore (opAt (now (logs .entry))) n x (now (heads .entry)) (now (befores .entry)) ⌝ }
+        ≡ onStore (ops (entryAt (now (logs .entry)))) n x (now (heads .entry)) (now (befores .entry)) ⌝ }
 {
     let b = bucket(x.object, x.key);
     let head = heads[b];
@@ -134,7 +132,7 @@ pub fn perform(
     befores: &mut [u16; 1024],
 ) -> u64
     ensures { λ r. ⌜ performed (now (registers .exit)) (stored r (now (heads .exit)) (now (befores .exit)))
-        ≡ performOf (opAt (now (logs .entry))) n (now (registers .entry)) (now (heads .entry)) (now (befores .entry)) ⌝ }
+        ≡ performOf (ops (entryAt (now (logs .entry)))) n (now (registers .entry)) (now (heads .entry)) (now (befores .entry)) ⌝ }
 {
     let x = op_at(logs, n);
     if x.object < 8 {
@@ -146,7 +144,7 @@ pub fn perform(
 // The answers of the first n lines, at most 1,024, to the front of `out`.
 pub fn answers(logs: &[u64; 6144], n: usize, out: &mut [u64; 1024])
     ensures { λ _. ⌜ now (out .exit)
-        ≡ sets (now (out .entry)) 0 (answersFrom atStart (firstOps (opAt (now (logs .entry))) (min n 1024))) ⌝ }
+        ≡ sets (now (out .entry)) 0 (answersFrom atStart (firsts (entryAt (now (logs .entry))) (min n 1024))) ⌝ }
 {
     let count = least(n, 1024);
     let mut registers = [0u64; 8];

@@ -1,7 +1,8 @@
 -- `nearest_put` meets its contract. The invariant: the walk from here gives what the walk from the start gives.
 use mathlib.Core.Path.{_≡_, refl, sym, _∙_}
 use native.Mathlib.Omega.{arith}
-use Rattle.machine.specs.Logs.{opAt}
+use Rattle.text.specs.Held.{entryAt}
+use Rattle.machine.specs.Logs.{ops}
 use Rattle.machine.specs.Index.{walk}
 use Rattle.machine.proofs.Chains.{walk-end, walk-hit, walk-on}
 use borrow.Author.Needs.{needs}
@@ -10,7 +11,7 @@ use Rattle.machine.proofs.objects.nearest_put.Tie as tie
 
 abbrev Inv-loop : tie.InvT-loop
 Inv-loop logs befores from object key j₀ left₀ j left =
-    walk (opAt logs) befores object key left j ≡ walk (opAt logs) befores object key 1024 from
+    walk (ops (entryAt logs)) befores object key left j ≡ walk (ops (entryAt logs)) befores object key 1024 from
 
 abbrev μ-loop : tie.MeasureT-loop
 μ-loop logs befores from object key j₀ left₀ j left = left

@@ -8,8 +8,9 @@ use native.Mathlib.Omega.{arith}
 use lib.ListN.{getD}
 use borrow.Author.Tests.{not-false, not-true}
 use Rattle.text.specs.declared.programs.Program.{Program}
+use Rattle.text.specs.Held.{noProgram}
 use Rattle.machine.specs.declared.rules.Ruling.the-variants.{Broken}
-use Rattle.machine.specs.Rules.{headKeeps, instructions, programs, noProgram, ruling}
+use Rattle.machine.specs.Rules.{headKeeps, instructions, programs, ruling}
 use Rattle.machine.proofs.Scan.{room, next-line, bad-line, bad-head, bad-body, next-program}
 use Rattle.machine.proofs.rules.check_rules.Statement.{statement}
 use Rattle.machine.proofs.rules.check_rules.Tie as tie
