@@ -10,7 +10,6 @@ use Rattle.text.specs.declared.report.Op.{Op}
 use Rattle.machine.specs.declared.instructions.Act.the-variants.{Goes, Asks, Replies}
 use Rattle.machine.specs.declared.processes.Next.{Next}
 use Rattle.machine.specs.declared.processes.Next.the-variants.{Operation, Reply, Cut}
-use Rattle.machine.specs.declared.rules.Ruling.{Ruling}
 use Rattle.machine.specs.declared.rules.Ruling.the-variants.{Kept, Broken}
 use Rattle.machine.specs.Instructions.{effect, effectAs, effectOf}
 use Rattle.machine.specs.Processes.{Advanced, firstLocals, go, advanceOf, limit}
@@ -135,9 +134,6 @@ bad = refl
 abbrev program : ℕ → List Instr → Program
 program number code = record { number = number; n = length code; code = code }
 
-abbrev rules : List Program → Ruling
-rules t = rulingOf (length t) t
-
 -- one instruction that replies
 abbrev short : List Instr
 short = instr 0 0 0 0 ∷ []
@@ -145,7 +141,7 @@ short = instr 0 0 0 0 ∷ []
 -- no program; two good ones; a local 8; a wrong last code; an empty program, at its own line; a number out of sequence; a target in program 1
 -- that is its number of instructions
 broken :
-    map rules
+    map rulingOf
     ([]
     ∷ (program 0 short ∷ program 1 short ∷ [])
     ∷ (program 0 (instr 0 8 0 0 ∷ []) ∷ [])

@@ -6,7 +6,7 @@ use lib.ListN.{getD, length}
 use lib.Dec.{leb, ltb, eqb}
 use Rattle.text.specs.declared.programs.Instr.{Instr}
 use Rattle.text.specs.declared.programs.Program.{Program}
-use Rattle.text.specs.Held.{noInstr, noProgram}
+use Rattle.text.specs.Held.{noInstr}
 use Rattle.machine.specs.declared.rules.Field.{Field}
 use Rattle.machine.specs.declared.rules.Field.the-variants.{Unused, Constant, Local, Register, Store, Target}
 use Rattle.machine.specs.declared.rules.Fields.{Fields}
@@ -76,17 +76,16 @@ instructions (suc k) p n j line = onward (bodyKeeps (getD p j noInstr) j n) line
 abbrev pub bodyOf : Program → ℕ → Scan
 bodyOf p line = instructions (p .n) (p .code) (p .n) 0 line
 
--- m programs from program k on
-unfoldable pub programs : (m : ℕ) → List Program → (k line : ℕ) → Scan
-programs zero t k line = fine line
-programs (suc m) t k line =
-    onward (headKeeps (getD t k noProgram .number) (getD t k noProgram .n) k) line
-    (andThen (bodyOf (getD t k noProgram) (line + 1)) (λ l. programs m t (k + 1) l))
+-- programs from program k on
+unfoldable pub programs : List Program → (k line : ℕ) → Scan
+programs [] k line = fine line
+programs (p ∷ ps) k line =
+    onward (headKeeps (p .number) (p .n) k) line (andThen (bodyOf p (line + 1)) (λ l. programs ps (k + 1) l))
 
 abbrev pub ruling : Scan → Ruling
 ruling (bad line) = Broken line
 ruling (fine line) = Kept
 
--- the first m programs of a table; lines count from 1
-abbrev pub rulingOf : ℕ → List Program → Ruling
-rulingOf m t = ruling (programs m t 0 1)
+-- all programs of a text, whose lines count from 1
+abbrev pub rulingOf : List Program → Ruling
+rulingOf ps = ruling (programs ps 0 1)

@@ -4,6 +4,8 @@ use text::Instr;
 use text::Programs;
 ghost use mathlib.Core.Path.{_≡_};
 ghost use Prim.Native.Nat.{_<_, min};
+ghost use Rattle.text.specs.Held.{programAt};
+ghost use Rattle.text.specs.Rows.{firsts};
 ghost use Rattle.machine.specs.Rules.{fitsAs, keepsFields, headKeeps, bodyKeeps, rulingOf};
 
 // What a field of an instruction names.
@@ -142,7 +144,7 @@ fn body_keeps(i: Instr, j: usize, n: usize) -> bool
 
 // Every line of the text is a `program` or a `do`, so the programs' counts give the line.
 pub fn check_rules(ps: Programs) -> Ruling
-    ensures { λ r. ⌜ r ≡ rulingOf (min (ps .n) 16) (ps .table) ⌝ }
+    ensures { λ r. ⌜ r ≡ rulingOf (firsts (programAt (ps .table)) (min (ps .n) 16)) ⌝ }
 {
     let count = least(ps.n, 16);
     let mut line: usize = 1;

@@ -1,30 +1,31 @@
 -- `check_rules` meets its contract. Both invariants: the definition at what is left gives what it gives for all; a program has 65 lines at
 -- most, so that the line does not wrap.
 use Prim.Native.Nat.{_≤_, _+_, _-_, _*_}
-use mathlib.Core.Path.{_≡_, sym, ap, _∙_}
+use mathlib.Core.Path.{_≡_, refl, sym, ap, _∙_}
 use mathlib.Core.Bool.{true}
 use mathlib.Core.Logic.{⊎-elim}
 use native.Mathlib.Omega.{arith}
-use lib.ListN.{getD}
+use lib.ListN.{getD, take, drop}
 use borrow.Author.Tests.{not-false, not-true}
 use Rattle.text.specs.declared.programs.Program.{Program}
-use Rattle.text.specs.Held.{noProgram}
+use Rattle.text.specs.Held.{noProgram, programAt}
+use Rattle.text.specs.Rows.{firsts}
 use Rattle.machine.specs.declared.rules.Ruling.the-variants.{Broken}
 use Rattle.machine.specs.Rules.{headKeeps, instructions, programs, ruling}
-use Rattle.machine.proofs.Scan.{room, next-line, bad-line, bad-head, bad-body, next-program}
+use Rattle.machine.proofs.Scan.{room, next-line, bad-line, bad-head, bad-body, next-program, no-more}
 use Rattle.machine.proofs.rules.check_rules.Statement.{statement}
 use Rattle.machine.proofs.rules.check_rules.Tie as tie
 
 abbrev Inv-loop : tie.InvT-loop
 Inv-loop ps count line₀ k p n j₀ line j =
-    (j ≤ n) × (line ≤ line₀ + j) × (instructions (n - j) (p .code) n j line ≡ instructions n (p .code) n 0 line₀)
+    (j ≤ n) × (line ≤ line₀ + j) × (instructions (n - j) (take n (p .code)) n j line ≡ instructions n (take n (p .code)) n 0 line₀)
 
 abbrev μ-loop : tie.MeasureT-loop
 μ-loop ps count line₀ k p n j₀ line j = n - j
 
 abbrev Inv-table : tie.InvT-table
 Inv-table ps count line₀ k₀ line k =
-    (k ≤ count) × (line ≤ 65 * k + 1) × (programs (count - k) (ps .table) k line ≡ programs count (ps .table) 0 1)
+    (k ≤ count) × (line ≤ 65 * k + 1) × (programs (drop k (firsts (programAt (ps .table)) count)) k line ≡ programs (firsts (programAt (ps .table)) count) 0 1)
 
 abbrev μ-table : tie.MeasureT-table
 μ-table ps count line₀ k₀ line k = count - k
@@ -41,9 +42,7 @@ few : (c : tie.Else1 Inv-loop μ-loop Inv-table μ-table) → program c .n ≤ 6
 few c = room (program c .number) (program c .n) (c .before .before .before .before .table .k) (head c)
 
 table-holds : tie.Need-table-holds Inv-loop μ-loop Inv-table μ-table
-table-holds c =
-    let z : c .least .result - 0 ≡ c .least .result = omega arith in
-    (omega arith, omega arith, rw z)
+table-holds c = (omega arith, omega arith, refl)
 
 loop-holds : tie.Need-loop-holds Inv-loop μ-loop Inv-table μ-table
 loop-holds c =
@@ -61,11 +60,13 @@ loop-again c = (
 table-again : tie.Need-table-again Inv-loop μ-loop Inv-table μ-table
 unfolding instructions
 table-again c =
-    let z : program (c .before .before) .n - c .before .loop .j ≡ 0 = omega arith in (
+    let z : program (c .before .before) .n - c .before .loop .j ≡ 0 = omega arith in
+    let s = c .before .before .before .before .before .before in (
       omega arith,
       omega (arith, few (c .before .before)),
-      sym (next-program _ _ _ _ (omega arith) (head (c .before .before)) _ (rw z at (sym (c .before .loop .inv .2))))
-          ∙ c .before .before .before .before .before .before .table .inv .2,
+      sym (next-program (s .before .before .args .t1 .table) (s .before .least .result) (s .table .k) (s .table .line) (omega arith)
+          (head (c .before .before)) _ (rw z at (sym (c .before .loop .inv .2))))
+          ∙ s .table .inv .2,
     )
 
 returns : tie.Need-returns Inv-loop μ-loop Inv-table μ-table
@@ -80,10 +81,9 @@ returns c =
     (c .before .table-test .came))
 
 returns-2 : tie.Need-returns-2 Inv-loop μ-loop Inv-table μ-table
-unfolding programs
 returns-2 c =
-    let z : c .before .before .before .least .result - c .before .before .table .k ≡ 0 = omega arith in
-    rw (← c .before .before .before .least .ensures) (ap ruling (rw z at (c .before .before .table .inv .2)))
+    let none = no-more _ _ _ _ (c .if3 .left) in
+    rw (← c .before .before .before .least .ensures) (ap ruling (sym none ∙ c .before .before .table .inv .2))
 
 pub check-rules-spec : {M : Type 1} → statement M
 check-rules-spec =
