@@ -56,7 +56,8 @@ module _ (line : ℕ → Entry) where
   store-nearest zero object h = rw (le-ltb object 8 h)
   store-nearest (suc n) object h =
       ap (λ f. f object) (afterAll-snoc atStart (firsts line n) (line n))
-      ∙ after-store (afterAll atStart (firsts line n)) (line n .op) object (λ key. nearest (ops line) object key n) h (store-nearest n object h)
+      ∙ after-store (afterAll atStart (firsts line n)) (line n .op) object (λ key. nearest (ops line) object key n) h
+      (store-nearest n object h)
 
   -- A read takes the value of the nearest earlier write of its object, of a store at the same key, or 0.
   pub read-nearest : (n object key : ℕ) → reads (afterAll atStart (firsts line n) object) key ≡ valueOf (nearest (ops line) object key n)

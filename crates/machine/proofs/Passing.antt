@@ -173,8 +173,8 @@ pub record Passed (lines : ℕ → Entry) (n : ℕ) (p : Performed) : Type 0 whe
   pub registers : Registers (ops lines) (n + 1) (p .registers)
   pub index : Indexed (ops lines) (n + 1) (p .heads) (p .befores)
 
-performs : (lines : ℕ → Entry) (n : ℕ) (registers heads befores : List ℕ) → n < 1024 → Registers (ops lines) n registers → Indexed (ops lines) n heads befores
-    → Passed lines n (performOf (ops lines) n registers heads befores)
+performs : (lines : ℕ → Entry) (n : ℕ) (registers heads befores : List ℕ) → n < 1024
+    → Registers (ops lines) n registers → Indexed (ops lines) n heads befores → Passed lines n (performOf (ops lines) n registers heads befores)
 performs lines n registers heads befores r g i =
     byBool (ltb (lines n .op .object) 8)
     (λ t. let h = ltb-true (lines n .op .object) 8 t in
@@ -198,7 +198,8 @@ performs lines n registers heads befores r g i =
     }))))
 
 -- the same of the arrays that the code has made
-module _ (lines : ℕ → Entry) (n : ℕ) (rs hs bs rs′ hs′ bs′ : List ℕ) (v : ℕ) (e : performed rs′ (stored v hs′ bs′) ≡ performOf (ops lines) n rs hs bs) where
+module _ (lines : ℕ → Entry) (n : ℕ) (rs hs bs rs′ hs′ bs′ : List ℕ) (v : ℕ)
+    (e : performed rs′ (stored v hs′ bs′) ≡ performOf (ops lines) n rs hs bs) where
   pub passed : n < 1024 → Registers (ops lines) n rs → Indexed (ops lines) n hs bs → Passed lines n (performed rs′ (stored v hs′ bs′))
   passed r g i = subst (Passed lines n) (sym e) (performs lines n rs hs bs r g i)
 

@@ -22,11 +22,13 @@ module _ (limit : ℕ) (p : List Instr) (l : List ℕ) (at done : ℕ) (h : done
   one m x e = rw (left, e)
 
 -- none is left
-pub cut : (limit : ℕ) (p : List Instr) (l : List ℕ) (at done : ℕ) → limit ≤ done → advanceOf limit p l at done ≡ advanced l (stopAt at done Cut) []
+pub cut : (limit : ℕ) (p : List Instr) (l : List ℕ) (at done : ℕ) → limit ≤ done
+    → advanceOf limit p l at done ≡ advanced l (stopAt at done Cut) []
 unfolding go
 cut limit p l at done h = let z : limit - done ≡ 0 = omega arith in rw z
 
--- one instruction with the path in a buffer, as a loop meets it: the buffer has become b′, and what the instruction came to has been told to be y
+-- one instruction with the path in a buffer, as a loop meets it: the buffer has become b′, and what the instruction came to has been told
+-- to be y
 module _ (limit : ℕ) (p : List Instr) (l : List ℕ) (at done : ℕ) (b : List ℕ) (h : done < limit) where
   pub marked : (b′ m : List ℕ) (x y : Act) → b′ ≡ set b done (at % 64) → effectOf l (instrAt p at) (at % 64 + 1) ≡ effect m x → x ≡ y
       → inBuffer b′ (done + 1) (follow y m (at % 64 + 1) (done + 1) (λ n to. advanceOf limit p n to (done + 1)))

@@ -37,7 +37,8 @@ loop-again c =
     let h = c .before .before .before .before .before .before .before in
     rw (c .wide .ensures)
     (sym
-    (walk-on _ _ _ _ _ _ (c .before .before .before .before .before .before .loop-test .taken) (c .before .before .before .before .before .if1 .left) _
+    (walk-on _ _ _ _ _ _ (c .before .before .before .before .before .before .loop-test .taken)
+    (c .before .before .before .before .before .if1 .left) _
     (c .before .before .before .before .op-at .ensures)
     (sym (c .before .before .before .is-at .ensures) ∙ c .before .before .if2 .left))
     ∙ h .loop .inv)

@@ -25,7 +25,8 @@ abbrev μ-loop : tie.MeasureT-loop
 
 abbrev Inv-table : tie.InvT-table
 Inv-table ps count line₀ k₀ line k =
-    (k ≤ count) × (line ≤ 65 * k + 1) × (programs (drop k (firsts (programAt (ps .table)) count)) k line ≡ programs (firsts (programAt (ps .table)) count) 0 1)
+    (k ≤ count) × (line ≤ 65 * k + 1)
+    × (programs (drop k (firsts (programAt (ps .table)) count)) k line ≡ programs (firsts (programAt (ps .table)) count) 0 1)
 
 abbrev μ-table : tie.MeasureT-table
 μ-table ps count line₀ k₀ line k = count - k
