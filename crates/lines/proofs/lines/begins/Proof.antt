@@ -1,3 +1,4 @@
+-- `lines::lines::begins` meets its contract.
 use Prim.Native.Nat.{_≤_, _-_}
 use mathlib.Core.Path.{_≡_, sym, _∙_}
 use lib.ListN.{length, drop}
@@ -17,10 +18,14 @@ returns : tie.Need-returns Inv-loop μ-loop
 returns c = let l = c .before .before .loop in sym (l .inv .1 ∙ prefix-short _ _ (l .i) (search needs) (search needs))
 
 returns-2 : tie.Need-returns-2 Inv-loop μ-loop
-returns-2 c = let l = c .before .before .before .before .before .loop in sym (l .inv .1 ∙ prefix-differ _ _ (l .i) (search needs) (search needs) (c .if2 .taken))
+returns-2 c =
+    let l = c .before .before .before .before .before .loop in
+    sym (l .inv .1 ∙ prefix-differ _ _ (l .i) (search needs) (search needs) (c .if2 .taken))
 
 loop-again : tie.Need-loop-again Inv-loop μ-loop
-loop-again c = let l = c .before .before .before .before .before .loop in (search needs, l .inv .1 ∙ prefix-step _ _ (l .i) (search needs) (search needs) (c .if2 .left))
+loop-again c =
+    let l = c .before .before .before .before .before .loop in
+    (search needs, l .inv .1 ∙ prefix-step _ _ (l .i) (search needs) (search needs) (c .if2 .left))
 
 returns-3 : tie.Need-returns-3 Inv-loop μ-loop
 returns-3 c = let l = c .before .loop in sym (l .inv .1 ∙ prefix-end _ _ (l .i) (search needs))

@@ -1,3 +1,4 @@
+-- `lines::lines::comma` meets its contract.
 use Rattle.lines.proofs.Spelling.{comma-inside, comma-outside}
 use borrow.Author.Needs.{needs}
 use Rattle.lines.proofs.lines.comma.Statement.{statement}

@@ -1,3 +1,4 @@
+-- `lines::lines::line_at` meets its contract.
 use Rattle.lines.specs.Place.{foundIn}
 use denote.Ref.{now}
 use borrow.Author.Tests.{not-true, not-false}
@@ -12,7 +13,9 @@ returns c = line-out _ _ _ _ (search needs)
 
 returns-2 : tie.Need-returns-2
 unfolding foundIn
-returns-2 c = let s = now (c .before .before .before .before .before .before .args .s) in line-other _ _ s _ (word-test _ s _ _ _ (c .before .begins .ensures) (not-true _ (c .if2 .taken)))
+returns-2 c =
+    let s = now (c .before .before .before .before .before .before .args .s) in
+    line-other _ _ s _ (word-test _ s _ _ _ (c .before .begins .ensures) (not-true _ (c .if2 .taken)))
 
 returns-3 : tie.Need-returns-3
 returns-3 c =

@@ -1,3 +1,4 @@
+-- `lines::numbers::digits_at` meets its contract.
 use Prim.Native.Nat.{_≤_, _-_}
 use mathlib.Core.Path.{_≡_, sym, _∙_}
 use lib.ListN.{length}
@@ -15,8 +16,11 @@ abbrev μ-loop : tie.MeasureT-loop
 
 loop-again : tie.Need-loop-again Inv-loop μ-loop
 loop-again c =
-    let l = c .before .before .before .before .before .before .loop in
-    (search needs, l .inv .1 ∙ spelling-on (l .v) _ _ (l .i) (search needs) (sym (c .before .w .given .1) ∙ c .before .before .before .push .ensures))
+    let l = c .before .before .before .before .before .before .loop in (
+      search needs,
+      l .inv .1 ∙ spelling-on (l .v) _ _ (l .i) (search needs)
+          (sym (c .before .w .given .1) ∙ c .before .before .before .push .ensures),
+    )
 
 returns : tie.Need-returns Inv-loop μ-loop
 returns c =
@@ -26,7 +30,9 @@ returns c =
 returns-2 : tie.Need-returns-2 Inv-loop μ-loop
 returns-2 c =
     let l = c .before .before .before .before .before .before .before .loop in
-    sym (l .inv .1 ∙ spelling-bad (l .v) _ (l .i) (search needs) (sym (c .before .ends .ensures) ∙ c .if1 .left) (sym (c .before .before .enum-told .given .1) ∙ c .before .before .before .before .push .ensures))
+    sym
+    (l .inv .1 ∙ spelling-bad (l .v) _ (l .i) (search needs) (sym (c .before .ends .ensures) ∙ c .if1 .left)
+    (sym (c .before .before .enum-told .given .1) ∙ c .before .before .before .before .push .ensures))
 
 returns-3 : tie.Need-returns-3 Inv-loop μ-loop
 returns-3 c = let l = c .before .loop in sym (l .inv .1 ∙ spelling-out (l .v) _ (l .i) (search needs))

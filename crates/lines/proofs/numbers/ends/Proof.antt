@@ -1,3 +1,4 @@
+-- `lines::numbers::ends` meets its contract.
 use Rattle.lines.proofs.Spelling.{ends-comma, ends-other}
 use Rattle.lines.proofs.numbers.ends.Statement.{statement}
 use Rattle.lines.proofs.numbers.ends.Tie as tie

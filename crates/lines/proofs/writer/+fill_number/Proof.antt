@@ -1,3 +1,4 @@
+-- `lines::writer::fill_number` meets its contract.
 use native.Mathlib.Omega.{arith}
 use Prim.Native.Nat.{_≤_}
 use mathlib.Core.Path.{sym}
@@ -50,13 +51,24 @@ fill-number-slice-write-out-2 : (t : ℕ) → fill-number-lts.Need-slice-write-o
   fill-number-below t,
   fill-number.Post,
 ) (fill-number-at t) fill-number.Post
-fill-number-slice-write-out-2 t c = omega (arith, decimal-more (c .before .before .before .before .before .before .args .v) (search needs), c .before .before .fill-number .ensures .0, c .before .before .fill-number .kept .0)
+fill-number-slice-write-out-2 t c =
+    omega (
+      arith,
+      decimal-more (c .before .before .before .before .before .before .args .v) (search needs),
+      c .before .before .fill-number .ensures .0,
+      c .before .before .fill-number .kept .0,
+    )
 
 fill-number-add-result : (t : ℕ) → fill-number-lts.Need-add-result (
   fill-number-below t,
   fill-number.Post,
 ) (fill-number-at t) fill-number.Post
-fill-number-add-result t c = omega (arith, decimal-more (c .before .before .before .before .before .before .args .v) (search needs), c .before .before .fill-number .ensures .0)
+fill-number-add-result t c =
+    omega (
+      arith,
+      decimal-more (c .before .before .before .before .before .before .args .v) (search needs),
+      c .before .before .fill-number .ensures .0,
+    )
 
 fill-number-returns-2 : (t : ℕ) → fill-number-lts.Need-returns-2 (
   fill-number-below t,

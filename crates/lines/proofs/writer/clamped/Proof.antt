@@ -1,3 +1,4 @@
+-- `lines::writer::clamped` meets its contract.
 use native.Mathlib.Omega.{arith}
 use Rattle.lines.proofs.LineTexts.{clamp}
 use borrow.Author.Needs.{needs}

@@ -1,3 +1,4 @@
+-- `lines::writer::fill_line` meets its contract.
 use mathlib.Core.Path.{refl, sym}
 use mathlib.Core.List.{[], append-nil}
 use native.Mathlib.Omega.{arith}
@@ -24,7 +25,11 @@ sub-fill-numbers c =
     let w = now (a .w) in
     let vs = take (a .f .n) (a .f .v) in
     let g = c .before .before .fill-word in
-    let x = writing-first w (numbersText vs) (g .last .0) (g .result) (writing-as (line-text w vs) (writing-start (lineText w vs) (now (a .out)) (c .before .before .before .before .before .before .pre .1))) (g .ensures .1) (g .ensures .0) in
+    let x =
+    writing-first w (numbersText vs) (g .last .0) (g .result)
+    (writing-as (line-text w vs)
+    (writing-start (lineText w vs) (now (a .out)) (c .before .before .before .before .before .before .pre .1)))
+    (g .ensures .1) (g .ensures .0) in
     omega (arith, writing-room x)
 
 part-fill-numbers-start : tie.Need-part-fill-numbers-start
@@ -33,7 +38,11 @@ part-fill-numbers-start c =
     let w = now (a .w) in
     let vs = take (a .f .n) (a .f .v) in
     let g = c .before .before .fill-word in
-    let x = writing-first w (numbersText vs) (g .last .0) (g .result) (writing-as (line-text w vs) (writing-start (lineText w vs) (now (a .out)) (c .before .before .before .before .before .before .pre .1))) (g .ensures .1) (g .ensures .0) in
+    let x =
+    writing-first w (numbersText vs) (g .last .0) (g .result)
+    (writing-as (line-text w vs)
+    (writing-start (lineText w vs) (now (a .out)) (c .before .before .before .before .before .before .pre .1)))
+    (g .ensures .1) (g .ensures .0) in
     omega (arith, writing-room x)
 
 fill-numbers-requires : tie.Need-fill-numbers-requires
@@ -42,8 +51,15 @@ fill-numbers-requires c κs =
     let w = now (a .w) in
     let vs = take (a .f .n) (a .f .v) in
     let g = c .before .before .before .fill-word in
-    let x = writing-first w (numbersText vs) (g .last .0) (g .result) (writing-as (line-text w vs) (writing-start (lineText w vs) (now (a .out)) (c .before .before .before .before .before .before .before .pre .1))) (g .ensures .1) (g .ensures .0) in
-    (c .before .before .before .before .before .before .before .pre .0, rw (rest-all (g .result) (g .last .0), length-drop (g .result) (g .last .0)) (omega (arith, writing-room x)))
+    let x =
+    writing-first w (numbersText vs) (g .last .0) (g .result)
+    (writing-as (line-text w vs)
+    (writing-start (lineText w vs) (now (a .out)) (c .before .before .before .before .before .before .before .pre .1)))
+    (g .ensures .1) (g .ensures .0) in (
+      c .before .before .before .before .before .before .before .pre .0,
+      rw
+          (rest-all (g .result) (g .last .0), length-drop (g .result) (g .last .0)) (omega (arith, writing-room x)),
+    )
 
 add-result : tie.Need-add-result
 add-result c =
@@ -51,9 +67,16 @@ add-result c =
     let w = now (a .w) in
     let vs = take (a .f .n) (a .f .v) in
     let g = c .before .before .before .before .before .before .fill-word in
-    let x = writing-first w (numbersText vs) (g .last .0) (g .result) (writing-as (line-text w vs) (writing-start (lineText w vs) (now (a .out)) (c .before .before .before .before .before .before .before .before .before .before .pre .1))) (g .ensures .1) (g .ensures .0) in
+    let x =
+    writing-first w (numbersText vs) (g .last .0) (g .result)
+    (writing-as (line-text w vs)
+    (writing-start (lineText w vs) (now (a .out))
+    (c .before .before .before .before .before .before .before .before .before .before .pre .1)))
+    (g .ensures .1) (g .ensures .0) in
     let h = c .before .before .fill-numbers in
-    let y = writing-part (numbersText vs) [] _ (h .result) (writing-as (sym (append-nil (numbersText vs))) x) (h .ensures .1) (h .ensures .0) in
+    let y =
+    writing-part (numbersText vs) [] _ (h .result) (writing-as (sym (append-nil (numbersText vs))) x) (h .ensures .1)
+    (h .ensures .0) in
     omega (arith, writing-room y, writing-length y)
 
 returns : tie.Need-returns
@@ -62,9 +85,16 @@ returns c =
     let w = now (a .w) in
     let vs = take (a .f .n) (a .f .v) in
     let g = c .before .before .before .before .before .before .fill-word in
-    let x = writing-first w (numbersText vs) (g .last .0) (g .result) (writing-as (line-text w vs) (writing-start (lineText w vs) (now (a .out)) (c .before .before .before .before .before .before .before .before .before .before .pre .1))) (g .ensures .1) (g .ensures .0) in
+    let x =
+    writing-first w (numbersText vs) (g .last .0) (g .result)
+    (writing-as (line-text w vs)
+    (writing-start (lineText w vs) (now (a .out))
+    (c .before .before .before .before .before .before .before .before .before .before .pre .1)))
+    (g .ensures .1) (g .ensures .0) in
     let h = c .before .before .fill-numbers in
-    let y = writing-part (numbersText vs) [] _ (h .result) (writing-as (sym (append-nil (numbersText vs))) x) (h .ensures .1) (h .ensures .0) in
+    let y =
+    writing-part (numbersText vs) [] _ (h .result) (writing-as (sym (append-nil (numbersText vs))) x) (h .ensures .1)
+    (h .ensures .0) in
     writing-done y refl
 
 pub fill-line-spec : {M : Type 1} → statement M

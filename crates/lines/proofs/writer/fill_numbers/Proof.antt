@@ -1,3 +1,4 @@
+-- `lines::writer::fill_numbers` meets its contract.
 use Prim.Native.Nat.{_-_, _≤_}
 use mathlib.Core.Path.{_≡_, ap}
 use native.Mathlib.Omega.{arith}
@@ -69,7 +70,9 @@ same-length : tie.Need-same-length Inv-loop μ-loop
 same-length c = writing-length (c .before .loop .inv .3)
 
 returns : tie.Need-returns Inv-loop μ-loop
-returns c = let f = c .before .before .before .before .args .f in writing-done (c .before .loop .inv .3) (ap length (numbers-done (f .v) (f .n) (c .before .loop .i) (search needs)))
+returns c =
+    let f = c .before .before .before .before .args .f in
+    writing-done (c .before .loop .inv .3) (ap length (numbers-done (f .v) (f .n) (c .before .loop .i) (search needs)))
 
 pub fill-numbers-spec : {M : Type 1} → statement M
 fill-numbers-spec =

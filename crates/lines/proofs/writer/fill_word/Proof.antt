@@ -1,3 +1,4 @@
+-- `lines::writer::fill_word` meets its contract.
 use Prim.Native.Nat.{_-_}
 use native.Mathlib.Omega.{arith}
 use lib.ListN.{length, drop, length-drop}
@@ -14,7 +15,9 @@ abbrev μ-loop : tie.MeasureT-loop
 μ-loop out₀ w i₀ out i = length w - i
 
 slice-write-out : tie.Need-slice-write-out Inv-loop μ-loop
-slice-write-out c = let l = c .before .before .loop in omega (arith, writing-room (l .inv), length-drop (l .i) (now (c .before .before .before .args .w)))
+slice-write-out c =
+    let l = c .before .before .loop in
+    omega (arith, writing-room (l .inv), length-drop (l .i) (now (c .before .before .before .args .w)))
 
 loop-again : tie.Need-loop-again Inv-loop μ-loop
 loop-again c = let l = c .before .before .loop in writing-byte _ _ (writing-as (drop-next _ (l .i) (search needs)) (l .inv))

@@ -1,3 +1,4 @@
+-- `lines::writer::numbers_width` meets its contract.
 use mathlib.Core.Path.{_∙_, ap}
 use lib.ListN.{length}
 use Rattle.lines.specs.LineText.{numbersText}

@@ -1,3 +1,4 @@
+-- `lines::writer::put_line` meets its contract.
 use mathlib.Core.Path.{ap}
 use lib.ListN.{length}
 use Rattle.lines.specs.LineText.{numbersText}
@@ -28,8 +29,11 @@ returns-2 c =
 fill-line-requires : tie.Need-fill-line-requires
 fill-line-requires c κs =
     let a = c .before .before .before .before .before .before .before .args in
-    let g = c .before .before .before .clamped .result in
-    (c .before .before .before .clamped .ensures .0, omega (arith, line-length (now (a .w)) (take (g .n) (g .v)), c .before .before .widths .ensures .0))
+    let g = c .before .before .before .clamped .result in (
+      c .before .before .before .clamped .ensures .0,
+      omega
+          (arith, line-length (now (a .w)) (take (g .n) (g .v)), c .before .before .widths .ensures .0),
+    )
 
 returns-3 : tie.Need-returns-3
 returns-3 c =

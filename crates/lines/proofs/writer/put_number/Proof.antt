@@ -1,3 +1,4 @@
+-- `lines::writer::put_number` meets its contract.
 use native.Mathlib.Omega.{arith}
 use Rattle.lines.proofs.Puts.{put-short, put-fits}
 use borrow.Author.Needs.{needs}
@@ -8,7 +9,9 @@ returns : tie.Need-returns
 returns c = put-short _ _ (omega (arith, c .before .width .ensures .0))
 
 returns-2 : tie.Need-returns-2
-returns-2 c = let f = c .before .before .fill-number in put-fits _ _ _ _ (omega (arith, c .before .before .before .before .before .width .ensures .0)) (f .ensures .0) (f .ensures .1)
+returns-2 c =
+    let f = c .before .before .fill-number in
+    put-fits _ _ _ _ (omega (arith, c .before .before .before .before .before .width .ensures .0)) (f .ensures .0) (f .ensures .1)
 
 pub put-number-spec : {M : Type 1} → statement M
 put-number-spec =

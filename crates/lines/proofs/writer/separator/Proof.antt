@@ -1,3 +1,4 @@
+-- `lines::writer::separator` meets its contract.
 use Rattle.lines.proofs.LineTexts.{separator-comma, separator-feed}
 use borrow.Author.Needs.{needs}
 use Rattle.lines.proofs.writer.separator.Statement.{statement}

@@ -1,3 +1,4 @@
+-- `lines::writer::width` meets its contract.
 use Prim.Native.Nat.{_+_, _≤_, _<_}
 use mathlib.Core.Path.{_≡_}
 use native.Mathlib.Omega.{arith}
@@ -18,7 +19,13 @@ loop-again : tie.Need-loop-again Inv-loop μ-loop
 loop-again c = omega (arith, decimal-more (c .before .loop .rest) (search needs))
 
 returns : tie.Need-returns Inv-loop μ-loop
-returns c = omega (arith, decimal-one (c .before .loop .rest) (search needs), decimal-20 (c .before .before .args .v) (c .before .before .fits .v .fits))
+returns c =
+    omega (
+      arith,
+      decimal-one (c .before .loop .rest) (search needs),
+      decimal-20 (c .before .before .args .v)
+          (c .before .before .fits .v .fits),
+    )
 
 pub width-spec : {M : Type 1} → statement M
 width-spec = tie.close (tie.spec Inv-loop μ-loop (λ c. search needs) (λ c. search needs) (λ c. search needs) loop-again returns)

@@ -1,3 +1,4 @@
+-- `text::trace::read_trace` meets its contract.
 use Prim.Native.Nat.{_-_}
 use native.Mathlib.Omega.{arith}
 use lib.ListN.{length}
@@ -19,10 +20,6 @@ use Rattle.text.proofs.TraceReading.{
 use borrow.Author.Needs.{needs}
 use Rattle.text.proofs.trace.read_trace.Statement.{statement}
 use Rattle.text.proofs.trace.read_trace.Tie as tie
-use Rattle.text.proofs.trace.read_trace.Reads as reads
-use Rattle.text.proofs.trace.read_trace.Lts as lts
-use Rattle.text.proofs.trace.put_event.Reads as put-event-reads
-use Rattle.text.proofs.trace.trace_line.Reads as trace-line-reads
 
 abbrev Inv-loop : tie.InvT-loop
 Inv-loop s events₀ v₀ m₀ n₀ at₀ events v m n at = Held s events m n at
@@ -30,111 +27,106 @@ Inv-loop s events₀ v₀ m₀ n₀ at₀ events v m n at = Held s events m n at
 abbrev μ-loop : tie.MeasureT-loop
 μ-loop s events₀ v₀ m₀ n₀ at₀ events v m n at = length s - at
 
--- src/trace.rt:78:9
 returns : tie.Need-returns Inv-loop μ-loop
 returns c = held-long _ _ (search needs) (search needs)
 
--- src/trace.rt:84:5
 loop-holds : tie.Need-loop-holds Inv-loop μ-loop
 loop-holds c = held-start _ _ (search needs) (search needs)
 
--- src/trace.rt:85:20
 add-line : tie.Need-add-line Inv-loop μ-loop
 add-line c = let r = c .before .loop .inv in omega (arith, r .few, r .fewer)
 
--- src/trace.rt:85:20
 add-line-2 : tie.Need-add-line-2 Inv-loop μ-loop
 add-line-2 c = let r = c .before .loop .inv in omega (arith, r .few, r .fewer)
 
--- src/trace.rt:86:15
-trace-line-requires : tie.Need-trace-line-requires Inv-loop μ-loop
-trace-line-requires c κs = search needs
-
--- src/trace.rt:87:25
-enum-known-e : tie.Need-enum-known-e Inv-loop μ-loop
-enum-known-e c = search needs
-
--- src/trace.rt:89:21
 returns-2 : tie.Need-returns-2 Inv-loop μ-loop
-returns-2 c = request-cut (c .before .before .before .before .before .before .before .loop .inv) (search needs) _ _ (c .before .before .before .before .trace-line .ensures) _ (c .before .before .e .given .1) (search needs)
+returns-2 c =
+    request-cut (c .before .before .before .before .before .before .before .loop .inv) (search needs) _ _
+    (c .before .before .before .before .trace-line .ensures) _ (c .before .before .e .given .1) (search needs)
 
--- src/trace.rt:92:21
 returns-3 : tie.Need-returns-3 Inv-loop μ-loop
-returns-3 c = request-full (c .before .before .before .before .before .before .before .before .loop .inv) (search needs) _ _ (c .before .before .before .before .before .trace-line .ensures) _ (c .before .before .before .e .given .1) (search needs)
+returns-3 c =
+    request-full (c .before .before .before .before .before .before .before .before .loop .inv) (search needs) _ _
+    (c .before .before .before .before .before .trace-line .ensures) _ (c .before .before .before .e .given .1) (search needs)
 
--- src/trace.rt:94:35
 add-put-event : tie.Need-add-put-event Inv-loop μ-loop
-add-put-event c = let r = c .before .before .before .before .before .before .before .before .before .loop .inv in omega (arith, r .few, r .fewer)
+add-put-event c =
+    let r = c .before .before .before .before .before .before .before .before .before .loop .inv in
+    omega (arith, r .few, r .fewer)
 
--- src/trace.rt:94:17
 put-event-requires : tie.Need-put-event-requires Inv-loop μ-loop
-put-event-requires c κs = let r = c .before .before .before .before .before .before .before .before .before .before .loop .inv in omega (arith, r .few, r .fewer)
+put-event-requires c κs =
+    let r = c .before .before .before .before .before .before .before .before .before .before .loop .inv in
+    omega (arith, r .few, r .fewer)
 
--- src/trace.rt:95:17
 add-m : tie.Need-add-m Inv-loop μ-loop
-add-m c = let r = c .before .before .before .before .before .before .before .before .before .before .before .loop .inv in omega (arith, r .few, r .fewer)
+add-m c =
+    let r = c .before .before .before .before .before .before .before .before .before .before .before .loop .inv in
+    omega (arith, r .few, r .fewer)
 
--- src/trace.rt:96:22
-add-at : tie.Need-add-at Inv-loop μ-loop
-add-at c = search needs
-
--- src/trace.rt:84:5
 loop-less : tie.Need-loop-less Inv-loop μ-loop
-loop-less c = omega (arith, request (c .before .before .before .before .before .before .before .before .before .before .before .loop .inv) (search needs) _ _ (c .before .before .before .before .before .before .before .before .trace-line .ensures) _ (c .before .before .before .before .before .before .e .given .1) .end)
+loop-less c =
+    omega (
+      arith,
+      request (c .before .before .before .before .before .before .before .before .before .before .before .loop .inv)
+          (search needs) _ _ (c .before .before .before .before .before .before .before .before .trace-line .ensures) _
+          (c .before .before .before .before .before .before .e .given .1) .end,
+    )
 
--- src/trace.rt:84:5
 loop-again : tie.Need-loop-again Inv-loop μ-loop
-loop-again c = request-on (c .before .before .before .before .before .before .before .before .before .before .before .loop .inv) (search needs) _ _ (c .before .before .before .before .before .before .before .before .trace-line .ensures) _ (c .before .before .before .before .before .before .e .given .1) (search needs) (search needs) _ (c .put-event .ensures)
+loop-again c =
+    request-on (c .before .before .before .before .before .before .before .before .before .before .before .loop .inv) (search needs)
+    _ _ (c .before .before .before .before .before .before .before .before .trace-line .ensures) _
+    (c .before .before .before .before .before .before .e .given .1) (search needs) (search needs) _ (c .put-event .ensures)
 
--- src/trace.rt:98:26
-enum-known-e-2 : tie.Need-enum-known-e-2 Inv-loop μ-loop
-enum-known-e-2 c = search needs
-
--- src/trace.rt:100:21
 returns-4 : tie.Need-returns-4 Inv-loop μ-loop
-returns-4 c = response-cut (c .before .before .before .before .before .before .before .loop .inv) (search needs) _ _ (c .before .before .before .before .trace-line .ensures) _ (c .before .before .e2 .given .1) (search needs)
+returns-4 c =
+    response-cut (c .before .before .before .before .before .before .before .loop .inv) (search needs) _ _
+    (c .before .before .before .before .trace-line .ensures) _ (c .before .before .e2 .given .1) (search needs)
 
--- src/trace.rt:103:21
 returns-5 : tie.Need-returns-5 Inv-loop μ-loop
-returns-5 c = response-full (c .before .before .before .before .before .before .before .before .loop .inv) (search needs) _ _ (c .before .before .before .before .before .trace-line .ensures) _ (c .before .before .before .e2 .given .1) (search needs)
+returns-5 c =
+    response-full (c .before .before .before .before .before .before .before .before .loop .inv) (search needs) _ _
+    (c .before .before .before .before .before .trace-line .ensures) _ (c .before .before .before .e2 .given .1) (search needs)
 
--- src/trace.rt:105:35
 add-put-event-2 : tie.Need-add-put-event-2 Inv-loop μ-loop
-add-put-event-2 c = let r = c .before .before .before .before .before .before .before .before .before .loop .inv in omega (arith, r .few, r .fewer)
+add-put-event-2 c =
+    let r = c .before .before .before .before .before .before .before .before .before .loop .inv in
+    omega (arith, r .few, r .fewer)
 
--- src/trace.rt:105:17
 put-event-requires-2 : tie.Need-put-event-requires-2 Inv-loop μ-loop
-put-event-requires-2 c κs = let r = c .before .before .before .before .before .before .before .before .before .before .loop .inv in omega (arith, r .few, r .fewer)
+put-event-requires-2 c κs =
+    let r = c .before .before .before .before .before .before .before .before .before .before .loop .inv in
+    omega (arith, r .few, r .fewer)
 
--- src/trace.rt:106:17
 add-n : tie.Need-add-n Inv-loop μ-loop
-add-n c = let r = c .before .before .before .before .before .before .before .before .before .before .before .loop .inv in omega (arith, r .few, r .fewer)
+add-n c =
+    let r = c .before .before .before .before .before .before .before .before .before .before .before .loop .inv in
+    omega (arith, r .few, r .fewer)
 
--- src/trace.rt:107:22
-add-at-2 : tie.Need-add-at-2 Inv-loop μ-loop
-add-at-2 c = search needs
-
--- src/trace.rt:84:5
 loop-less-2 : tie.Need-loop-less-2 Inv-loop μ-loop
-loop-less-2 c = omega (arith, response (c .before .before .before .before .before .before .before .before .before .before .before .loop .inv) (search needs) _ _ (c .before .before .before .before .before .before .before .before .trace-line .ensures) _ (c .before .before .before .before .before .before .e2 .given .1) .end)
+loop-less-2 c =
+    omega (
+      arith,
+      response (c .before .before .before .before .before .before .before .before .before .before .before .loop .inv)
+          (search needs) _ _ (c .before .before .before .before .before .before .before .before .trace-line .ensures) _
+          (c .before .before .before .before .before .before .e2 .given .1) .end,
+    )
 
--- src/trace.rt:84:5
 loop-again-2 : tie.Need-loop-again-2 Inv-loop μ-loop
-loop-again-2 c = response-on (c .before .before .before .before .before .before .before .before .before .before .before .loop .inv) (search needs) _ _ (c .before .before .before .before .before .before .before .before .trace-line .ensures) _ (c .before .before .before .before .before .before .e2 .given .1) (search needs) (search needs) _ (c .put-event2 .ensures)
+loop-again-2 c =
+    response-on (c .before .before .before .before .before .before .before .before .before .before .before .loop .inv)
+    (search needs) _ _ (c .before .before .before .before .before .before .before .before .trace-line .ensures) _
+    (c .before .before .before .before .before .before .e2 .given .1) (search needs) (search needs) _ (c .put-event2 .ensures)
 
--- src/trace.rt:110:17
-enum-told : tie.Need-enum-told Inv-loop μ-loop
-enum-told c = search needs
-
--- src/trace.rt:110:17
 returns-6 : tie.Need-returns-6 Inv-loop μ-loop
-returns-6 c = held-neither (c .before .before .before .before .before .loop .inv) (search needs) _ _ (c .before .before .trace-line .ensures) (c .enum-told .given .1)
+returns-6 c =
+    held-neither (c .before .before .before .before .before .loop .inv) (search needs) _ _ (c .before .before .trace-line .ensures)
+    (c .enum-told .given .1)
 
--- src/trace.rt:114:21
 add-t10 : tie.Need-add-t10 Inv-loop μ-loop
 add-t10 c = let r = c .before .loop .inv in omega (arith, r .few, r .fewer)
 
--- src/trace.rt:73:1
 returns-7 : tie.Need-returns-7 Inv-loop μ-loop
 returns-7 c = held-done (c .before .loop .inv) (search needs)
 
@@ -148,26 +140,26 @@ read-trace-spec =
     loop-holds
     add-line
     add-line-2
-    trace-line-requires
-    enum-known-e
+    (λ c κs. search needs)
+    (λ c. search needs)
     returns-2
     returns-3
     add-put-event
     put-event-requires
     add-m
-    add-at
+    (λ c. search needs)
     loop-less
     loop-again
-    enum-known-e-2
+    (λ c. search needs)
     returns-4
     returns-5
     add-put-event-2
     put-event-requires-2
     add-n
-    add-at-2
+    (λ c. search needs)
     loop-less-2
     loop-again-2
-    enum-told
+    (λ c. search needs)
     returns-6
     add-t10
     returns-7)

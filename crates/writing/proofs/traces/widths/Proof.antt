@@ -1,3 +1,4 @@
+-- `writing::traces::widths` meets its contract.
 use Prim.Native.Nat.{_-_}
 use mathlib.Core.Path.{_∙_, ap}
 use native.Mathlib.Omega.{arith}
@@ -8,10 +9,6 @@ use Rattle.writing.proofs.Texts.{Measuring, measuring-start, measuring-
 use borrow.Author.Needs.{needs}
 use Rattle.writing.proofs.traces.widths.Statement.{statement}
 use Rattle.writing.proofs.traces.widths.Tie as tie
-use Rattle.writing.proofs.traces.widths.Reads as reads
-use Rattle.writing.proofs.traces.widths.Lts as lts
-use Rattle.text.proofs.trace.event_at.Reads as event-at-reads
-use Rattle.writing.proofs.traces.event_width.Reads as event-width-reads
 
 abbrev Inv-loop : tie.InvT-loop
 Inv-loop events n at₀ i₀ at i = Measuring (eventLine events) 135 n at i
@@ -19,37 +16,18 @@ Inv-loop events n at₀ i₀ at i = Measuring (eventLine events) 135 n at i
 abbrev μ-loop : tie.MeasureT-loop
 μ-loop events n at₀ i₀ at i = n - i
 
--- src/trace_writer.rt:97:5
 loop-holds : tie.Need-loop-holds Inv-loop μ-loop
 loop-holds c = measuring-start 135 _
 
--- src/trace_writer.rt:98:27
-event-at-requires : tie.Need-event-at-requires Inv-loop μ-loop
-event-at-requires c κs = search needs
-
--- src/trace_writer.rt:98:15
-event-width-requires : tie.Need-event-width-requires Inv-loop μ-loop
-event-width-requires c κs = search needs
-
--- src/trace_writer.rt:98:9
 add-at : tie.Need-add-at Inv-loop μ-loop
 add-at c = let m = c .before .before .before .loop .inv in omega (arith, m .some, m .few, c .event-width .ensures .1)
 
--- src/trace_writer.rt:99:9
-add-i : tie.Need-add-i Inv-loop μ-loop
-add-i c = search needs
-
--- src/trace_writer.rt:97:5
-loop-less : tie.Need-loop-less Inv-loop μ-loop
-loop-less c = search needs
-
--- src/trace_writer.rt:97:5
 loop-again : tie.Need-loop-again Inv-loop μ-loop
 loop-again c =
     let w = c .event-width in
-    measuring-next (c .before .before .before .loop .inv) (search needs) _ (w .ensures .0 ∙ ap (λ e. length (eventText e)) (c .before .event-at .ensures)) (w .ensures .1)
+    measuring-next (c .before .before .before .loop .inv) (search needs) _
+    (w .ensures .0 ∙ ap (λ e. length (eventText e)) (c .before .event-at .ensures)) (w .ensures .1)
 
--- src/trace_writer.rt:91:1
 returns : tie.Need-returns Inv-loop μ-loop
 returns c = measuring-done (c .before .loop .inv) (search needs)
 
@@ -60,10 +38,10 @@ widths-spec =
     Inv-loop
     μ-loop
     loop-holds
-    event-at-requires
-    event-width-requires
+    (λ c κs. search needs)
+    (λ c κs. search needs)
     add-at
-    add-i
-    loop-less
+    (λ c. search needs)
+    (λ c. search needs)
     loop-again
     returns)
