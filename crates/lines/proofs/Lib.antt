@@ -10,3 +10,4 @@ pub mod Writing
 pub mod LineTexts
 pub mod NumberTrip
 pub mod LineTrip
+pub mod Cases

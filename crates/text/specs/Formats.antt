@@ -1,7 +1,12 @@
--- The formats of the four texts: the word of each line, and the ranges of its fields.
+-- The formats of the four texts: the word of each line, the ranges of its fields, and how many of it there may be.
+use Prim.Native.Nat.{ℕ}
 use mathlib.Core.List.{List, [], _∷_}
 use Rattle.lines.specs.Bytes.{bytes}
 use Rattle.lines.specs.Line.{Range, Format, any, upTo}
+
+-- the most bytes of a text
+abbrev pub mostBytes : ℕ
+mostBytes = 65535
 
 -- a request id
 abbrev pub rid : Range
@@ -11,6 +16,13 @@ rid = upTo 65535
 abbrev pub programLine : Format
 programLine = record { word = bytes "program="; ranges = any ∷ [] }
 
+-- the most programs, and the most instructions of one
+abbrev pub mostPrograms : ℕ
+mostPrograms = 16
+
+abbrev pub mostInstructions : ℕ
+mostInstructions = 64
+
 -- do=code,a,b,c
 abbrev pub doLine : Format
 doLine = record { word = bytes "do="; ranges = any ∷ any ∷ any ∷ any ∷ [] }
@@ -19,13 +31,25 @@ doLine = record { word = bytes "do="; ranges = any ∷ any ∷ any ∷ any ∷ [
 abbrev pub requestLine : Format
 requestLine = record { word = bytes "request="; ranges = rid ∷ any ∷ any ∷ any ∷ [] }
 
+-- the most requests of a trace
+abbrev pub mostRequests : ℕ
+mostRequests = 64
+
 -- response=rid,status,value
 abbrev pub responseLine : Format
 responseLine = record { word = bytes "response="; ranges = rid ∷ upTo 1 ∷ any ∷ [] }
 
+-- the most responses of a trace
+abbrev pub mostResponses : ℕ
+mostResponses = 64
+
 -- of=rid,group,count
 abbrev pub ofLine : Format
 ofLine = record { word = bytes "of="; ranges = rid ∷ upTo 63 ∷ upTo 256 ∷ [] }
+
+-- the most `of` lines of a report
+abbrev pub mostOfs : ℕ
+mostOfs = 64
 
 -- log=object,rid,num,kind,key,value
 abbrev pub logLine : Format
@@ -35,9 +59,17 @@ logLine =
       ranges = upTo 15 ∷ rid ∷ upTo 256 ∷ record { low = 6; high = 9 } ∷ any ∷ any ∷ [];
     }
 
+-- the most `log` lines of a report
+abbrev pub mostEntries : ℕ
+mostEntries = 1024
+
 -- arrive=rid,prog,a,b
 abbrev pub arriveLine : Format
 arriveLine = record { word = bytes "arrive="; ranges = rid ∷ any ∷ any ∷ any ∷ [] }
+
+-- the most arrivals of a schedule
+abbrev pub mostArrivals : ℕ
+mostArrivals = 64
 
 -- turn=rid
 abbrev pub turnLine : Format

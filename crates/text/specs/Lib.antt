@@ -1,5 +1,5 @@
-pub mod Text
 pub mod Formats
+pub mod Text
 pub mod Programs
 pub mod Trace
 pub mod Report

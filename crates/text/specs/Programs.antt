@@ -4,7 +4,7 @@ use mathlib.Core.List.{List, [], _∷_, _++_}
 use mathlib.Core.Option.{Option, some, none}
 use lib.ListN.{length, getD}
 use Rattle.text.specs.Text.{Read, Kind, within, readText}
-use Rattle.text.specs.Formats.{programLine, doLine}
+use Rattle.text.specs.Formats.{programLine, doLine, mostPrograms, mostInstructions}
 use Rattle.text.specs.declared.programs.Instr.{Instr}
 use Rattle.text.specs.declared.programs.Program.{Program}
 
@@ -21,7 +21,7 @@ abbrev pub withInstr : Program → Instr → Program
 withInstr p i = record { number = p .number; n = suc (p .n); code = p .code ++ i ∷ [] }
 
 unfoldable pub addProgram : List Program → List ℕ → Option (List Program)
-addProgram ps v = within (length ps) 16 (ps ++ begun (getD v 0 0) ∷ [])
+addProgram ps v = within (length ps) mostPrograms (ps ++ begun (getD v 0 0) ∷ [])
 
 abbrev pub inFrontOf : Program → Option (List Program) → Option (List Program)
 inFrontOf p (some ps) = some (p ∷ ps)
@@ -30,7 +30,7 @@ inFrontOf p none = none
 -- an instruction belongs to the last program
 unfoldable pub addDo : List Program → List ℕ → Option (List Program)
 addDo [] v = none
-addDo (p ∷ []) v = within (p .n) 64 (withInstr p (instrFrom v) ∷ [])
+addDo (p ∷ []) v = within (p .n) mostInstructions (withInstr p (instrFrom v) ∷ [])
 addDo (p ∷ q ∷ ps) v = inFrontOf p (addDo (q ∷ ps) v)
 
 abbrev pub programKinds : List (Kind (List Program))

@@ -6,7 +6,7 @@ use lib.ListN.{length, getD}
 use Rattle.lines.specs.Line.{InRanges}
 use Rattle.lines.specs.LineText.{lineText}
 use Rattle.text.specs.Text.{Read, Kind, within, linesText, readText}
-use Rattle.text.specs.Formats.{ofLine, logLine}
+use Rattle.text.specs.Formats.{ofLine, logLine, mostOfs, mostEntries}
 use Rattle.text.specs.declared.report.Of.{Of}
 use Rattle.text.specs.declared.report.Entry.{Entry}
 
@@ -30,12 +30,12 @@ entryFrom v =
 unfoldable pub addOf : Report → List ℕ → Option Report
 addOf r v =
     elim (r .log) [
-      | [] ↦ within (length (r .ofs)) 64 (record { ofs = r .ofs ++ ofFrom v ∷ []; log = [] })
+      | [] ↦ within (length (r .ofs)) mostOfs (record { ofs = r .ofs ++ ofFrom v ∷ []; log = [] })
       | l ∷ ls ↦ none
     ]
 
 unfoldable pub addLog : Report → List ℕ → Option Report
-addLog r v = within (length (r .log)) 1024 (record { ofs = r .ofs; log = r .log ++ entryFrom v ∷ [] })
+addLog r v = within (length (r .log)) mostEntries (record { ofs = r .ofs; log = r .log ++ entryFrom v ∷ [] })
 
 abbrev pub reportKinds : List (Kind Report)
 reportKinds = record { format = ofLine; add = addOf } ∷ record { format = logLine; add = addLog } ∷ []

@@ -5,7 +5,7 @@ use mathlib.Core.Option.{Option, some}
 use mathlib.Core.Bool.{Bool, true, false}
 use lib.ListN.{getD}
 use Rattle.text.specs.Text.{Read, Kind, within, count, readText}
-use Rattle.text.specs.Formats.{arriveLine, turnLine}
+use Rattle.text.specs.Formats.{arriveLine, turnLine, mostArrivals}
 use Rattle.text.specs.declared.schedule.Move.{Move}
 use Rattle.text.specs.declared.schedule.Move.the-variants.{Arrive, Turn}
 
@@ -21,7 +21,7 @@ isArrive (Arrive rid prog a b) = true
 isArrive (Turn rid) = false
 
 unfoldable pub addArrive : List Move → List ℕ → Option (List Move)
-addArrive ms v = within (count isArrive ms) 64 (ms ++ arriveFrom v ∷ [])
+addArrive ms v = within (count isArrive ms) mostArrivals (ms ++ arriveFrom v ∷ [])
 
 unfoldable pub addTurn : List Move → List ℕ → Option (List Move)
 addTurn ms v = some (ms ++ turnFrom v ∷ [])

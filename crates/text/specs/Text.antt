@@ -7,6 +7,7 @@ use lib.ListN.{length}
 use lib.Dec.{ltb}
 use Rattle.lines.specs.Parts.{parts}
 use Rattle.lines.specs.Line.{Format, lineOf}
+use Rattle.text.specs.Formats.{mostBytes}
 
 -- what reading a text gives; or the number of the first unreadable line
 pub data Read (S : Type 0) : Type 0 where
@@ -52,4 +53,4 @@ module _ {S : Type 0} where
 
   -- an overlong text is unreadable at line 0, before its lines are looked at
   unfoldable pub readText : List (Kind S) → S → List ℕ → Read S
-  readText ks x s = elim (ltb 65535 (length s)) [ true ↦ unreadable 0 | false ↦ readLines ks 1 x (parts 10 s) ]
+  readText ks x s = elim (ltb mostBytes (length s)) [ true ↦ unreadable 0 | false ↦ readLines ks 1 x (parts 10 s) ]

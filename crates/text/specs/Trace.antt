@@ -7,7 +7,7 @@ use lib.ListN.{getD}
 use Rattle.lines.specs.Line.{Format, InRanges}
 use Rattle.lines.specs.LineText.{lineText}
 use Rattle.text.specs.Text.{Read, Kind, within, count, linesText, readText}
-use Rattle.text.specs.Formats.{requestLine, responseLine}
+use Rattle.text.specs.Formats.{requestLine, responseLine, mostRequests, mostResponses}
 use Rattle.text.specs.declared.trace.Event.{Event}
 use Rattle.text.specs.declared.trace.Event.the-variants.{Request, Response}
 
@@ -26,10 +26,10 @@ abbrev pub isResponse : Event → Bool
 isResponse e = not (isRequest e)
 
 unfoldable pub addRequest : List Event → List ℕ → Option (List Event)
-addRequest es v = within (count isRequest es) 64 (es ++ requestFrom v ∷ [])
+addRequest es v = within (count isRequest es) mostRequests (es ++ requestFrom v ∷ [])
 
 unfoldable pub addResponse : List Event → List ℕ → Option (List Event)
-addResponse es v = within (count isResponse es) 64 (es ++ responseFrom v ∷ [])
+addResponse es v = within (count isResponse es) mostResponses (es ++ responseFrom v ∷ [])
 
 abbrev pub traceKinds : List (Kind (List Event))
 traceKinds = record { format = requestLine; add = addRequest } ∷ record { format = responseLine; add = addResponse } ∷ []
