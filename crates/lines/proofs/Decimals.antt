@@ -9,35 +9,38 @@ use lib.Dec.{ltb}
 use borrow.Author.Tests.{lt-ltb, le-ltb, ltb-true, ltb-false}
 use Rattle.lines.specs.Decimal.{digitsIn, decimal}
 
-digitsIn-small : (k v : ℕ) → v < 10 → digitsIn k v ≡ (48 + v) ∷ []
+digits-small : (k v : ℕ) → v < 10 → digitsIn k v ≡ (48 + v) ∷ []
 unfolding digitsIn
-digitsIn-small zero v h = refl
-digitsIn-small (suc k) v h = simp (lt-ltb v 10 h, digitsIn)
+digits-small zero v h = refl
+digits-small (suc k) v h = simp (lt-ltb v 10 h, digitsIn)
 
-digitsIn-big : (k v : ℕ) → 10 ≤ v → digitsIn (suc k) v ≡ digitsIn k (v / 10) ++ (48 + v % 10) ∷ []
+digits-big : (k v : ℕ) → 10 ≤ v → digitsIn (suc k) v ≡ digitsIn k (v / 10) ++ (48 + v % 10) ∷ []
 unfolding digitsIn
-digitsIn-big k v h = simp (le-ltb v 10 h, digitsIn)
+digits-big k v h = simp (le-ltb v 10 h, digitsIn)
 
 -- divisions enough are enough
-digitsIn-same : (k j v : ℕ) → v ≤ k → v ≤ j → digitsIn k v ≡ digitsIn j v
-digitsIn-same zero j v h g = digitsIn-small zero v (omega arith) ∙ sym (digitsIn-small j v (omega arith))
-digitsIn-same (suc k) zero v h g = digitsIn-small (suc k) v (omega arith) ∙ sym (digitsIn-small zero v (omega arith))
-digitsIn-same (suc k) (suc j) v h g = go (ltb v 10) refl (digitsIn-same k j (v / 10))
+digits-same : (k j v : ℕ) → v ≤ k → v ≤ j → digitsIn k v ≡ digitsIn j v
+digits-same zero j v h g = digits-small zero v (omega arith) ∙ sym (digits-small j v (omega arith))
+digits-same (suc k) zero v h g = digits-small (suc k) v (omega arith) ∙ sym (digits-small zero v (omega arith))
+digits-same (suc k) (suc j) v h g = go (ltb v 10) refl (digits-same k j (v / 10))
   where
-    go : (b : Bool) → ltb v 10 ≡ b → (v / 10 ≤ k → v / 10 ≤ j → digitsIn k (v / 10) ≡ digitsIn j (v / 10)) → digitsIn (suc k) v ≡ digitsIn (suc j) v
-    go true e ih = let l = ltb-true v 10 e in digitsIn-small (suc k) v l ∙ sym (digitsIn-small (suc j) v l)
+    go : (b : Bool) → ltb v 10 ≡ b → (v / 10 ≤ k → v / 10 ≤ j → digitsIn k (v / 10) ≡ digitsIn j (v / 10)) →
+        digitsIn (suc k) v ≡ digitsIn (suc j) v
+    go true e ih = let l = ltb-true v 10 e in digits-small (suc k) v l ∙ sym (digits-small (suc j) v l)
     go false e ih =
         let l = ltb-false v 10 e in
-        digitsIn-big k v l ∙ ap (λ (t : List ℕ). t ++ (48 + v % 10) ∷ []) (ih (omega arith) (omega arith)) ∙ sym (digitsIn-big j v l)
+        digits-big k v l ∙ ap (λ (t : List ℕ). t ++ (48 + v % 10) ∷ []) (ih (omega arith) (omega arith)) ∙ sym (digits-big j v l)
 
 pub decimal-small : (v : ℕ) → v < 10 → decimal v ≡ (48 + v) ∷ []
 unfolding decimal
-decimal-small v h = digitsIn-small v v h
+decimal-small v h = digits-small v v h
 
 pub decimal-big : (v : ℕ) → 10 ≤ v → decimal v ≡ decimal (v / 10) ++ (48 + v % 10) ∷ []
 unfolding decimal
 decimal-big zero h = absurd (omega arith)
-decimal-big (suc k) h = digitsIn-big k (suc k) h ∙ ap (λ (t : List ℕ). t ++ (48 + suc k % 10) ∷ []) (digitsIn-same k (suc k / 10) (suc k / 10) (omega arith) (omega arith))
+decimal-big (suc k) h =
+    digits-big k (suc k) h
+    ∙ ap (λ (t : List ℕ). t ++ (48 + suc k % 10) ∷ []) (digits-same k (suc k / 10) (suc k / 10) (omega arith) (omega arith))
 
 pub decimal-more : (v : ℕ) → 10 ≤ v → length (decimal v) ≡ length (decimal (v / 10)) + 1
 decimal-more v h = ap length (decimal-big v h) ∙ length-append (decimal (v / 10)) _

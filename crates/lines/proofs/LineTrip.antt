@@ -73,7 +73,9 @@ joined-free v (u ∷ vs) = free-append 10 (decimal v) _ (decimal-free 10 v v (om
 parts-joined : (v : ℕ) (vs : List ℕ) → parts 44 (joined v vs) ≡ map decimal (v ∷ vs)
 unfolding joined
 parts-joined v [] = parts-free 44 (decimal v) (decimal-free 44 v v (omega arith) (omega arith))
-parts-joined v (u ∷ vs) = parts-glue 44 (decimal v) (joined u vs) (decimal-free 44 v v (omega arith) (omega arith)) ∙ ap (λ (l : List (List ℕ)). decimal v ∷ l) (parts-joined u vs)
+parts-joined v (u ∷ vs) =
+    parts-glue 44 (decimal v) (joined u vs) (decimal-free 44 v v (omega arith) (omega arith))
+    ∙ ap (λ (l : List (List ℕ)). decimal v ∷ l) (parts-joined u vs)
 
 -- each number in its range
 pub fields-back : (rs : List Range) (vs : List ℕ) → InRanges rs vs → fieldsOf rs (map decimal vs) ≡ some vs

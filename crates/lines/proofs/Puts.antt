@@ -39,5 +39,6 @@ front-more t b o h =
     rw (drop-cons o (length t) 0, length-append, add-one) (set-at t _ _ b (length t) refl ∙ sym (append-assoc t (b ∷ []) _))
 
 -- the same where the text and the buffer are known by equations
-pub front-next : (t u : List ℕ) (b : ℕ) (o p : List ℕ) (n : ℕ) → u ≡ t ++ b ∷ [] → n ≡ length t → p ≡ front t o → length t < length o → set p n b ≡ front u o
+pub front-next : (t u : List ℕ) (b : ℕ) (o p : List ℕ) (n : ℕ) → u ≡ t ++ b ∷ [] → n ≡ length t → p ≡ front t o →
+    length t < length o → set p n b ≡ front u o
 front-next t u b o p n e k q h = rw (e, k, q) (front-more t b o h)

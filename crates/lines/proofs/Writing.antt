@@ -43,7 +43,8 @@ module _ {t o out u : List ℕ} {at : ℕ} where
       (e, w .now ∙ rw e (ap (λ (l : List ℕ). l ++ drop (length t) o) (take-length t)))
 
 -- a piece p written to `&mut out[at..]`
-pub writing-piece : {t o out : List ℕ} {at : ℕ} (p u : List ℕ) → Writing t o out at (p ++ u) → Writing t o (take at out ++ front p (drop at out)) (at + length p) u
+writing-piece : {t o out : List ℕ} {at : ℕ} (p u : List ℕ) → Writing t o out at (p ++ u) →
+    Writing t o (take at out ++ front p (drop at out)) (at + length p) u
 unfolding front
 writing-piece {t} {o} {out} {at} p u w =
     let l : length (take at t) ≡ at = length-take-le at t (omega (arith, w .count)) in
@@ -58,10 +59,12 @@ writing-piece {t} {o} {out} {at} p u w =
     }
 
 -- the same as the borrow checker has it: ys is what `&mut out[at..]` held last
-pub writing-part : {t o out : List ℕ} {at : ℕ} (p u ys : List ℕ) (n : ℕ) → Writing t o out at (p ++ u) → ys ≡ front p (take (length out - at) (drop at out)) → n ≡ length p
+pub writing-part : {t o out : List ℕ} {at : ℕ} (p u ys : List ℕ) (n : ℕ) → Writing t o out at (p ++ u) →
+    ys ≡ front p (take (length out - at) (drop at out)) → n ≡ length p
     → Writing t o (take at out ++ (ys ++ drop (length out - at) (drop at out))) (at + n) u
 writing-part {t} {o} {out} {at} p u ys n w f e =
-    let k : drop (length out - at) (drop at out) ≡ [] = drop-of-length-le (drop at out) {i = length out - at} (omega (arith, length-drop at out)) in
+    let k : drop (length out - at) (drop at out) ≡ [] =
+    drop-of-length-le (drop at out) {i = length out - at} (omega (arith, length-drop at out)) in
     rw (e, k, append-nil ys, f, rest-all at out) (writing-piece p u w)
 
 pub writing-byte : {t o out : List ℕ} {at : ℕ} (b : ℕ) (u : List ℕ) → Writing t o out at (b ∷ u) → Writing t o (set out at b) (at + 1) u

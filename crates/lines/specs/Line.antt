@@ -1,5 +1,5 @@
 -- A line without its line feed: a word, and numbers parted by single commas, each in its range.
-use Prim.Native.Nat.{ℕ, zero, suc, _-_, _^_, _≤_, _<_}
+use Prim.Native.Nat.{ℕ, zero, suc, _-_, _^_, _≤_, _<_, min}
 use mathlib.Core.List.{List, [], _∷_}
 use mathlib.Core.Bool.{Bool, true, false, _&&_}
 use mathlib.Core.Option.{Option, some, none}
@@ -71,6 +71,10 @@ InRanges (r ∷ rs) (v ∷ vs) = InRange r v × InRanges rs vs
 abbrev pub rangesOf : ℕ → List ℕ → List ℕ → List Range
 rangesOf zero low high = []
 rangesOf (suc n) low high = record { low = getD low 0 0; high = getD high 0 0 } ∷ rangesOf n (drop 1 low) (drop 1 high)
+
+-- the word w and n fields, six at most
+abbrev pub formatOf : List ℕ → ℕ → List ℕ → List ℕ → Format
+formatOf w n low high = record { word = w; ranges = rangesOf (min n 6) low high }
 
 -- any number
 abbrev pub any : Range

@@ -1,7 +1,7 @@
 // A line at a place of a text: its word, and its numbers in their ranges.
 ghost use mathlib.Core.Path.{_≡_};
 ghost use Prim.Native.Nat.{_≤_, min};
-ghost use Rattle.lines.specs.Line.{prefix, rangesOf};
+ghost use Rattle.lines.specs.Line.{prefix, rangesOf, formatOf};
 ghost use Rattle.lines.specs.Place.{fieldsAt, lineAt, foundIn};
 ghost use Rattle.lines.specs.Steps.{commaAt};
 use crate::numbers::Spelled;
@@ -95,7 +95,7 @@ pub fn line_at(
     high: &[u64; 6],
     v: &mut [u64; 6],
 ) -> Place
-    ensures { λ r. ⌜ foundIn r n (now (v .exit)) ≡ lineAt (record { word = now (w .entry); ranges = rangesOf (min n 6) (now (low .entry)) (now (high .entry)) }) (now (s .entry)) at ⌝ }
+    ensures { λ r. ⌜ foundIn r n (now (v .exit)) ≡ lineAt (formatOf (now (w .entry)) n (now (low .entry)) (now (high .entry))) (now (s .entry)) at ⌝ }
 {
     if s.len() < at {
         return Place::Nowhere;

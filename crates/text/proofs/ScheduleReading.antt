@@ -114,7 +114,9 @@ module _ (moves arrivals : List ℕ) (m n : ℕ) (codes : Codes moves m n) (l : 
             ∙ ap arriveFrom (row-before 4 arrivals m vs four (omega (arith, room, g)) (code % 64) (omega (arith, k, f, g)))
             ∙ sym (arrive-code arrivals code f)
 
-    arrive-more : firsts (moveAt (set moves n (65536 + m)) (withRow 4 arrivals m vs)) (n + 1) ≡ firsts (moveAt moves arrivals) n ++ arriveFrom vs ∷ []
+    arrive-more :
+        firsts (moveAt (set moves n (65536 + m)) (withRow 4 arrivals m vs)) (n + 1)
+        ≡ firsts (moveAt moves arrivals) n ++ arriveFrom vs ∷ []
     unfolding moveAt
     arrive-more =
         let b = withRow 4 arrivals m vs in

@@ -151,7 +151,8 @@ module _ {s a : List ℕ} {m n at : ℕ} (r : Held s a m n at) where
           let j : m + 1 + n ≡ m + n + 1 = omega arith in
           let w : firsts (eventAt b) (m + 1 + n) ≡ es ++ requestFrom (cells 4 v) ∷ [] =
           rw (d, j) (events-more a (m + n) 0 v (r .room) (omega (arith, k, r .fewer))) in
-          let x = reading-taken traceKinds [] s (r .reading) h e _ request g _ (within-yes (count isRequest es) 64 _ (omega (arith, k, r .asks))) in
+          let x = reading-taken traceKinds [] s (r .reading) h e _ request g _
+          (within-yes (count isRequest es) 64 _ (omega (arith, k, r .asks))) in
           record {
             reading = rw (w, j) x;
             room = ap length d ∙ row-room 5 a (m + n) (rowOf 0 v) refl (omega (arith, r .room, k, r .fewer)) ∙ r .room;
@@ -182,7 +183,8 @@ module _ {s a : List ℕ} {m n at : ℕ} (r : Held s a m n at) where
           let j : m + (n + 1) ≡ m + n + 1 = omega arith in
           let w : firsts (eventAt b) (m + (n + 1)) ≡ es ++ responseFrom (cells 3 v) ∷ [] =
           rw (d, j) (events-more a (m + n) 1 v (r .room) (omega (arith, k, r .few))) in
-          let x = reading-taken traceKinds [] s (r .reading) h e _ response g _ (within-yes (count isResponse es) 64 _ (omega (arith, k, r .answers))) in
+          let x = reading-taken traceKinds [] s (r .reading) h e _ response g _
+          (within-yes (count isResponse es) 64 _ (omega (arith, k, r .answers))) in
           record {
             reading = rw (w, j) x;
             room = ap length d ∙ row-room 5 a (m + n) (rowOf 1 v) refl (omega (arith, r .room, k, r .few)) ∙ r .room;

@@ -12,7 +12,8 @@ use Rattle.lines.proofs.writer.fill_numbers.Statement.{statement}
 use Rattle.lines.proofs.writer.fill_numbers.Tie as tie
 
 abbrev Inv-loop : tie.InvT-loop
-Inv-loop out₀ n v at₀ i₀ out at i = (i ≤ n) × (n ≤ 6) × (length v ≡ 6) × Writing (numbersText (take n v)) out₀ out at (numbersText (drop i (take n v)))
+Inv-loop out₀ n v at₀ i₀ out at i =
+    (i ≤ n) × (n ≤ 6) × (length v ≡ 6) × Writing (numbersText (take n v)) out₀ out at (numbersText (drop i (take n v)))
 
 abbrev μ-loop : tie.MeasureT-loop
 μ-loop out₀ n v at₀ i₀ out at i = n - i

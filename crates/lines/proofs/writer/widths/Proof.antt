@@ -10,7 +10,9 @@ use Rattle.lines.proofs.writer.widths.Statement.{statement}
 use Rattle.lines.proofs.writer.widths.Tie as tie
 
 abbrev Inv-loop : tie.InvT-loop
-Inv-loop n v at₀ i₀ at i = (i ≤ n) × (n ≤ 6) × (length v ≡ 6) × (at ≤ 21 * i) × (at + length (numbersText (drop i (take n v))) ≡ length (numbersText (take n v)))
+Inv-loop n v at₀ i₀ at i =
+    (i ≤ n) × (n ≤ 6) × (length v ≡ 6) × (at ≤ 21 * i)
+    × (at + length (numbersText (drop i (take n v))) ≡ length (numbersText (take n v)))
 
 abbrev μ-loop : tie.MeasureT-loop
 μ-loop n v at₀ i₀ at i = n - i
