@@ -1,7 +1,6 @@
 -- Numbers and lines, computed.
-use Prim.Native.Nat.{ℕ}
-use mathlib.Core.List.{List, [], _∷_, map}
-use mathlib.Core.Option.{Option, some, none}
+use mathlib.Core.List.{[], _∷_, map}
+use mathlib.Core.Option.{some, none}
 use mathlib.Core.Path.{_≡_, refl}
 use Rattle.lines.specs.Bytes.{bytes}
 use Rattle.lines.specs.Number.{pushOf, digitsOf, numberOf}

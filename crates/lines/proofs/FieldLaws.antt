@@ -1,23 +1,21 @@
 -- The fields of a line, read one by one from a place on.
 use Prim.Native.Nat.{ℕ, zero, suc, _+_, _-_, _<_, _≤_, min}
 use mathlib.Core.List.{List, [], _∷_, _++_, append-assoc, append-nil}
-use mathlib.Core.Bool.{Bool, true, false, _&&_}
+use mathlib.Core.Bool.{true, false}
 use mathlib.Core.Option.{Option, some, none}
 use mathlib.Core.Path.{_≡_, refl, sym, _∙_, ap}
 use native.Mathlib.Omega.{arith}
 use native.Mathlib.Numerals.{add-one}
 use lib.ListN.{length, getD, take, drop, set, length-set}
 use lib.Seq.{drop-cons, drop-drop, getD-drop, take-suc-set}
-use lib.Dec.{leb}
 use borrow.Author.Tests.{le-leb, lt-leb}
 use Rattle.lines.specs.Number.{numberOf}
 use Rattle.lines.specs.Parts.{parts}
 use Rattle.lines.specs.Line.{Range, inFront, fieldOf, fieldsOf, rangesOf}
-use Rattle.lines.specs.Place.{line, field, lineEnd, spelledAt, Found, found, nothing, foundAt, fieldsAt, cellsFrom, cells}
+use Rattle.lines.specs.Place.{line, field, lineEnd, spelledAt, found, nothing, foundAt, fieldsAt, cellsFrom, cells}
 use Rattle.lines.specs.Steps.{commaAt}
 use Rattle.lines.proofs.Parts.{first-part}
 use Rattle.lines.proofs.Spelling.{ended, broken, behind-comma, behind-last}
-use Rattle.lines.specs.declared.numbers.Numeral.{Numeral}
 use Rattle.lines.specs.declared.numbers.Numeral.the-variants.{Value, Not}
 use Rattle.lines.specs.declared.numbers.Spelled.the-variants.{Ended, Broken}
 

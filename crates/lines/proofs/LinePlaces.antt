@@ -1,16 +1,15 @@
 -- Laws of a line that begins at a place of a text.
 use Prim.Native.Nat.{ℕ, _+_, _-_, _<_, _≤_, min}
 use mathlib.Core.List.{List, [], _∷_}
-use mathlib.Core.Bool.{Bool, true, false, false≢true}
-use mathlib.Core.Option.{Option, some, none}
+use mathlib.Core.Bool.{Bool, true, false}
 use mathlib.Core.Path.{_≡_, refl, sym, _∙_, ap}
 use native.Mathlib.Omega.{arith}
-use lib.ListN.{length, take, drop, drop-of-length-le, length-drop}
+use lib.ListN.{length, take, drop, drop-of-length-le}
 use lib.Seq.{drop-drop}
 use Rattle.lines.specs.Number.{numberOf}
 use Rattle.lines.specs.Parts.{until, parts}
 use Rattle.lines.specs.Line.{Range, Format, prefix, fieldOf, fieldsOf, lineOf, rangesOf}
-use Rattle.lines.specs.Place.{line, lineEnd, Found, found, nothing, foundAt, fieldsAt, lineAt, cells, foundIn}
+use Rattle.lines.specs.Place.{line, lineEnd, found, nothing, foundAt, fieldsAt, lineAt, cells, foundIn}
 use Rattle.lines.specs.declared.lines.Place.{Place}
 use Rattle.lines.specs.declared.lines.Place.the-variants.{At, Nowhere}
 use Rattle.lines.proofs.Parts.{rest-all}

@@ -2,7 +2,7 @@
 use Prim.Native.Nat.{ℕ, min}
 use mathlib.Core.List.{List, [], _∷_}
 use mathlib.Core.Option.{Option, some, none}
-use mathlib.Core.Bool.{Bool, true, false}
+use mathlib.Core.Bool.{true}
 use mathlib.Core.Path.{_≡_, refl, sym, _∙_, ap}
 use native.Mathlib.Omega.{arith}
 use lib.ListN.{drop}
@@ -13,7 +13,7 @@ use Rattle.lines.specs.declared.lines.Place.the-variants.{At, Nowhere}
 use Rattle.lines.proofs.Prefix.{unbroken}
 use Rattle.lines.proofs.LinePlaces.{line-of}
 use Rattle.text.specs.Text.{Kind, addLine}
-use Rattle.text.specs.Steps.{Told, first, second, neither, firstOf, secondOf, eitherAt, secondLine, toldIn}
+use Rattle.text.specs.Steps.{first, second, neither, firstOf, secondOf, eitherAt, secondLine, toldIn}
 use Rattle.text.specs.declared.kinds.Line.{Line}
 use Rattle.text.specs.declared.kinds.Line.the-variants.{First, Second, Neither}
 use Rattle.text.proofs.Reading.{Adds}

@@ -12,7 +12,7 @@ use Rattle.lines.specs.Line.{prefix, fieldOf, fieldsOf, lineOf}
 use Rattle.text.specs.Text.{Read, readable, unreadable, within, count, addLine, readLines, readText}
 use Rattle.text.specs.Programs.{addProgram, addDo, readPrograms}
 use Rattle.text.specs.Trace.{addRequest, addResponse, readTrace}
-use Rattle.text.specs.Report.{Report, addOf, addLog, readReport}
+use Rattle.text.specs.Report.{addOf, addLog, readReport}
 use Rattle.text.specs.Schedule.{addArrive, addTurn, readSchedule}
 use Rattle.text.specs.declared.trace.Event.the-variants.{Request, Response}
 use Rattle.text.specs.declared.schedule.Move.the-variants.{Arrive, Turn}

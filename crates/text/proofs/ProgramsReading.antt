@@ -1,18 +1,18 @@
 -- The reader of the programs, from line to line.
-use Prim.Native.Nat.{ℕ, zero, suc, _+_, _*_, _%_, _<_, _≤_}
+use Prim.Native.Nat.{ℕ, zero, suc, _+_, _%_, _<_, _≤_}
 use mathlib.Core.List.{List, [], _∷_, _++_}
-use mathlib.Core.Option.{Option, some, none}
+use mathlib.Core.Option.{some, none}
 use mathlib.Core.Bool.{Bool, true, false}
 use mathlib.Core.Path.{_≡_, refl, sym, _∙_, ap, subst}
 use native.Mathlib.Omega.{arith}
 use native.Mathlib.Numerals.{add-one}
 use lib.ListN.{length, getD, take, set, replicate, length-append, length-set, length-replicate, List·getD-eq-default, getD-replicate}
-use lib.Seq.{getD-set-same, getD-set-other, take-suc-set, length-take-le}
+use lib.Seq.{getD-set-same, getD-set-other, take-suc-set}
 use lib.Dec.{ltb, eqb}
 use borrow.Author.Tests.{ltb-true, ltb-false, eqb-true, eqb-false}
 use Rattle.lines.specs.Place.{cells}
 use Rattle.lines.proofs.Prefix.{unbroken}
-use Rattle.text.specs.Text.{Read, readable, unreadable, within, readText}
+use Rattle.text.specs.Text.{readable, unreadable, readText}
 use Rattle.text.specs.Formats.{programLine, doLine}
 use Rattle.text.specs.Programs.{instrFrom, begun, withInstr, inFrontOf, addProgram, addDo, programKinds, readPrograms}
 use Rattle.text.specs.Rows.{firsts}

@@ -9,10 +9,10 @@ use native.Mathlib.Numerals.{add-one}
 use lib.ListN.{length, drop, drop-of-length-le, length-drop}
 use lib.Dec.{ltb}
 use borrow.Author.Tests.{lt-ltb, le-ltb, ltb-true, ltb-false}
-use Rattle.lines.specs.Parts.{until, parts}
+use Rattle.lines.specs.Parts.{parts}
 use Rattle.lines.specs.Place.{line, lineEnd}
 use Rattle.lines.proofs.Parts.{first-part, parts-at-last, parts-at-next}
-use Rattle.text.specs.Text.{Read, readable, unreadable, Kind, within, count, addLine, readLines, readText}
+use Rattle.text.specs.Text.{readable, unreadable, Kind, within, count, addLine, readLines, readText}
 
 -- the limit of a kind of line
 module _ {A : Type 0} (n limit : ℕ) (x : A) where

@@ -2,24 +2,21 @@
 use Prim.Native.Nat.{ℕ, _+_, _*_, _%_, _<_, _≤_}
 use mathlib.Core.List.{List, [], _∷_, _++_}
 use mathlib.Core.Option.{Option, some, none}
-use mathlib.Core.Bool.{true}
 use mathlib.Core.Path.{_≡_, refl, sym, _∙_, ap}
 use native.Mathlib.Omega.{arith}
 use lib.ListN.{length, getD}
 use Rattle.lines.specs.Place.{cells}
 use Rattle.lines.proofs.Prefix.{unbroken}
-use Rattle.text.specs.Text.{Read, readable, unreadable, within, readText}
+use Rattle.text.specs.Text.{unreadable, within, readText}
 use Rattle.text.specs.Formats.{ofLine, logLine}
 use Rattle.text.specs.Report.{Report, ofFrom, entryFrom, addOf, addLog, reportKinds, readReport}
-use Rattle.text.specs.Rows.{row, withRow, firsts}
-use Rattle.text.specs.Held.{ofAt, entryAt, reportIn, ofsIn, logsIn, ReportIs}
+use Rattle.text.specs.Rows.{withRow, firsts}
+use Rattle.text.specs.Held.{ofAt, entryAt, reportIn, ReportIs}
 use Rattle.text.specs.Steps.{eitherAt, toldIn}
 use Rattle.text.specs.declared.kinds.Line.{Line}
 use Rattle.text.specs.declared.kinds.Line.the-variants.{First, Second, Neither}
 use Rattle.text.specs.declared.report.Of.{Of}
-use Rattle.text.specs.declared.report.Op.{Op}
 use Rattle.text.specs.declared.report.Entry.{Entry}
-use Rattle.text.specs.declared.report.ReportLines.{ReportLines}
 use Rattle.text.specs.declared.report.ReportLines.the-variants.{Counts, BadLine}
 use Rattle.text.proofs.Reading.{
   within-yes,

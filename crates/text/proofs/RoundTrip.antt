@@ -1,8 +1,8 @@
 -- Reading what was written gives it back, and how long it is at most.
 use Prim.Native.Nat.{ℕ, suc, _+_, _*_, _<_, _≤_}
 use mathlib.Core.List.{List, [], _∷_, _++_, append-assoc, append-nil}
-use mathlib.Core.Option.{Option, some, none}
-use mathlib.Core.Bool.{Bool, true, false}
+use mathlib.Core.Option.{some}
+use mathlib.Core.Bool.{true}
 use mathlib.Core.Path.{_≡_, refl, sym, _∙_, ap, subst}
 use native.Mathlib.Omega.{arith}
 use native.Mathlib.Nat.{mul-suc}
@@ -10,54 +10,15 @@ use lib.ListN.{length, length-append}
 use borrow.Author.Tests.{le-ltb}
 use Rattle.lines.specs.Decimal.{digitsIn, decimal}
 use Rattle.lines.specs.Parts.{parts}
-use Rattle.lines.specs.Line.{Format, InRanges, prefix, lineOf}
-use Rattle.lines.specs.LineText.{lineText, widest}
+use Rattle.lines.specs.Line.{prefix}
+use Rattle.lines.specs.LineText.{lineText}
 use Rattle.lines.proofs.Parts.{first-part}
 use Rattle.lines.proofs.Prefix.{unbroken}
 use Rattle.lines.proofs.LineTrip.{joined, parts-glue, line-back, line-not, line-free, line-joined, line-bound}
-use Rattle.text.specs.Text.{
-  Read,
-  readable,
-  unreadable,
-  Kind,
-  within,
-  count,
-  All,
-  linesText,
-  addLine,
-  readLines,
-  readText,
-}
+use Rattle.text.specs.Text.{readable, Kind, count, All, linesText, addLine, readLines, readText}
 use Rattle.text.specs.Formats.{requestLine, responseLine, ofLine, logLine}
-use Rattle.text.specs.Trace.{
-  requestFrom,
-  responseFrom,
-  isRequest,
-  isResponse,
-  addRequest,
-  addResponse,
-  traceKinds,
-  readTrace,
-  EventIn,
-  eventText,
-  traceText,
-}
-use Rattle.text.specs.Report.{
-  Report,
-  ofFrom,
-  entryFrom,
-  addOf,
-  addLog,
-  reportKinds,
-  readReport,
-  ofNumbers,
-  entryNumbers,
-  OfIn,
-  EntryIn,
-  ofText,
-  entryText,
-  reportText,
-}
+use Rattle.text.specs.Trace.{isRequest, isResponse, addRequest, addResponse, traceKinds, readTrace, EventIn, eventText, traceText}
+use Rattle.text.specs.Report.{Report, ofFrom, addOf, addLog, reportKinds, readReport, ofNumbers, entryNumbers, OfIn, EntryIn, ofText, entryText, reportText}
 use Rattle.text.specs.declared.trace.Event.{Event}
 use Rattle.text.specs.declared.trace.Event.the-variants.{Request, Response}
 use Rattle.text.specs.declared.report.Of.{Of}

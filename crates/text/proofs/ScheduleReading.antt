@@ -1,7 +1,6 @@
 -- The reader of the schedule, from line to line.
-use Prim.Native.Nat.{ℕ, suc, _+_, _*_, _%_, _<_, _≤_}
+use Prim.Native.Nat.{ℕ, _+_, _*_, _%_, _<_, _≤_}
 use mathlib.Core.List.{List, [], _∷_, _++_}
-use mathlib.Core.Option.{some}
 use mathlib.Core.Bool.{Bool, true, false, cond}
 use mathlib.Core.Path.{_≡_, refl, sym, _∙_, ap}
 use native.Mathlib.Omega.{arith}
@@ -12,16 +11,15 @@ use borrow.Author.Tests.{lt-ltb, le-ltb, ltb-true, ltb-false}
 use Rattle.lines.specs.Place.{cells}
 use Rattle.lines.proofs.Prefix.{unbroken}
 use Rattle.lines.proofs.LineTrip.{line-longer, line-range}
-use Rattle.text.specs.Text.{Read, readable, unreadable, count, readText}
+use Rattle.text.specs.Text.{unreadable, count, readText}
 use Rattle.text.specs.Formats.{arriveLine, turnLine}
 use Rattle.text.specs.Schedule.{arriveFrom, turnFrom, isArrive, addArrive, addTurn, scheduleKinds, readSchedule}
 use Rattle.text.specs.Rows.{row, withRow, firsts}
-use Rattle.text.specs.Held.{linesIn, readIn, moveFrom, moveAt, ScheduleIs}
+use Rattle.text.specs.Held.{readIn, moveFrom, moveAt, ScheduleIs}
 use Rattle.text.specs.Steps.{eitherAt, toldIn}
 use Rattle.text.specs.declared.kinds.Line.{Line}
 use Rattle.text.specs.declared.kinds.Line.the-variants.{First, Second, Neither}
 use Rattle.text.specs.declared.kinds.Lines.the-variants.{Readable, Unreadable}
-use Rattle.text.specs.declared.schedule.Move.{Move}
 use Rattle.text.specs.declared.schedule.Move.the-variants.{Arrive, Turn}
 use Rattle.text.proofs.Reading.{
   count-yes,

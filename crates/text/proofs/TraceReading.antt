@@ -1,23 +1,21 @@
 -- The reader of the trace, from line to line.
-use Prim.Native.Nat.{ℕ, suc, _+_, _*_, _%_, _<_, _≤_}
+use Prim.Native.Nat.{ℕ, _+_, _*_, _%_, _<_, _≤_}
 use mathlib.Core.List.{List, [], _∷_, _++_}
-use mathlib.Core.Option.{some, none}
-use mathlib.Core.Bool.{true, false, cond}
-use mathlib.Core.Path.{_≡_, refl, sym, _∙_, ap, subst}
+use mathlib.Core.Bool.{cond}
+use mathlib.Core.Path.{_≡_, refl, sym, _∙_, ap}
 use native.Mathlib.Omega.{arith}
 use lib.ListN.{length, getD, drop}
 use lib.Seq.{getD-drop}
 use borrow.Author.Tests.{eq-eqb, ne-eqb}
 use Rattle.lines.specs.Place.{cells}
-use Rattle.text.specs.Text.{Read, readable, unreadable, count, readText}
+use Rattle.text.specs.Text.{unreadable, count, readText}
 use Rattle.text.specs.Formats.{requestLine, responseLine}
 use Rattle.text.specs.Trace.{requestFrom, responseFrom, isRequest, isResponse, addRequest, addResponse, traceKinds, readTrace}
 use Rattle.text.specs.Rows.{row, withRow, firsts}
-use Rattle.text.specs.Held.{linesIn, readIn, eventFrom, eventAt, TraceIs}
+use Rattle.text.specs.Held.{readIn, eventFrom, eventAt, TraceIs}
 use Rattle.text.specs.Steps.{eitherAt, toldIn}
 use Rattle.text.specs.declared.kinds.Line.{Line}
 use Rattle.text.specs.declared.kinds.Line.the-variants.{First, Second, Neither}
-use Rattle.text.specs.declared.kinds.Lines.{Lines}
 use Rattle.text.specs.declared.kinds.Lines.the-variants.{Readable, Unreadable}
 use Rattle.text.specs.declared.trace.Event.{Event}
 use Rattle.text.specs.declared.trace.Event.the-variants.{Request, Response}

@@ -1,6 +1,6 @@
 -- The formats of the four texts: the word of each line, the ranges of its fields, and how many of it there may be.
 use Prim.Native.Nat.{ℕ}
-use mathlib.Core.List.{List, [], _∷_}
+use mathlib.Core.List.{[], _∷_}
 use Rattle.lines.specs.Bytes.{bytes}
 use Rattle.lines.specs.Line.{Range, Format, any, upTo}
 

@@ -1,21 +1,18 @@
 -- The writer of the report.
-use Prim.Native.Nat.{ℕ, zero, suc, _+_, _-_, _<_, _≤_, min}
-use mathlib.Core.List.{List, [], _++_, append-assoc}
-use mathlib.Core.Bool.{true, false, cond}
-use mathlib.Core.Path.{_≡_, refl, sym, _∙_, ap, subst}
+use Prim.Native.Nat.{ℕ, _+_, _-_, _<_, _≤_, min}
+use mathlib.Core.List.{List, _++_}
+use mathlib.Core.Bool.{cond}
+use mathlib.Core.Path.{_≡_, sym, _∙_, ap}
 use native.Mathlib.Omega.{arith}
 use lib.ListN.{length, take}
-use lib.Dec.{ltb}
 use borrow.Author.Tests.{lt-ltb, le-ltb}
 use Rattle.lines.specs.LineText.{numbersText, lineText}
-use Rattle.lines.specs.Put.{PutIs}
 use Rattle.lines.specs.declared.writer.Fields.{Fields}
-use Rattle.lines.specs.declared.writer.Put.{Put}
 use Rattle.lines.proofs.LineTexts.{line-length}
 use Rattle.text.specs.Formats.{ofLine, logLine}
 use Rattle.text.specs.Report.{ofText, entryText, reportText}
 use Rattle.text.specs.Held.{ofAt, entryAt, reportOf}
-use Rattle.writing.specs.Steps.{textsFrom, texts, reportLine, ofFields, entryFields}
+use Rattle.writing.specs.Steps.{texts, reportLine, ofFields, entryFields}
 use Rattle.text.specs.declared.report.Of.{Of}
 use Rattle.text.specs.declared.report.Entry.{Entry}
 use Rattle.writing.proofs.Texts.{lines-texts, texts-same, texts-add}
