@@ -1,0 +1,52 @@
+-- What the lines of a log leave in an object is the nearest write above: the scope's rule for a read.
+use Prim.Native.Nat.{ℕ, zero, suc, _≤_, _<_}
+use mathlib.Core.Path.{_≡_, refl, sym, ap, _∙_}
+use mathlib.Core.Bool.{Bool, true, false, cond}
+use mathlib.Core.List.{List, [], _∷_, _++_}
+use lib.Dec.{eqb}
+use borrow.Author.Tests.{lt-ltb, le-ltb, eqb-true}
+use Rattle.text.specs.declared.report.Op.{Op}
+use Rattle.machine.specs.declared.objects.Cell.{Cell}
+use Rattle.machine.specs.declared.objects.Cell.the-variants.{Put}
+use Rattle.machine.specs.Objects.{Content, register, store, atStart, valueOf}
+use Rattle.machine.specs.Logs.{firstOps, after, afterAll, nearest, writes}
+use Rattle.machine.proofs.Tests.{byBool}
+
+-- one operation more
+pub afterAll-snoc : (cs : ℕ → Content) (os : List Op) (o : Op) → afterAll cs (os ++ o ∷ []) ≡ after (afterAll cs os) o
+afterAll-snoc cs [] o = refl
+afterAll-snoc cs (x ∷ os) o = afterAll-snoc (after cs x) os o
+
+module _ (cs : ℕ → Content) (o : Op) (object : ℕ) where
+  -- the object's own content, where the operation is one on it
+  own : {c : Content} → eqb (o .object) object ≡ true → cs object ≡ c → cs (o .object) ≡ c
+  own t e = ap cs (eqb-true (o .object) object t) ∙ e
+
+  after-register : (key : ℕ) (c : Cell) → object < 8 → cs object ≡ register (valueOf c)
+      → after cs o object ≡ register (valueOf (cond (writes object key o) (Put (o .value)) c))
+  after-register key c h e = byBool (eqb (o .object) object) (λ t. rw (lt-ltb object 8 h, own t e, t) (by (eqb (o .kind) 7))) (λ t. rw t e)
+    where
+      by : (b : Bool) → cond b (register (o .value)) (register (valueOf c)) ≡ register (valueOf (cond b (Put (o .value)) c))
+      by true = refl
+      by false = refl
+
+  after-store : (cells : ℕ → Cell) → 8 ≤ object → cs object ≡ store cells
+      → after cs o object ≡ store (λ key. cond (writes object key o) (Put (o .value)) (cells key))
+  after-store cells h e = byBool (eqb (o .object) object) (λ t. rw (le-ltb object 8 h, own t e, t) (byBool (eqb (o .kind) 9) (λ u. rw u) (λ u. rw u))) (λ t. rw t e)
+
+module _ (line : ℕ → Op) where
+  -- a register holds the nearest write, whatever the key
+  pub register-nearest : (n object key : ℕ) → object < 8 → afterAll atStart (firstOps line n) object ≡ register (valueOf (nearest line object key n))
+  unfolding firstOps nearest
+  register-nearest zero object key h = rw (lt-ltb object 8 h)
+  register-nearest (suc n) object key h =
+      ap (λ f. f object) (afterAll-snoc atStart (firstOps line n) (line n))
+      ∙ after-register (afterAll atStart (firstOps line n)) (line n) object key (nearest line object key n) h (register-nearest n object key h)
+
+  -- a store holds at each key the nearest put of that key
+  pub store-nearest : (n object : ℕ) → 8 ≤ object → afterAll atStart (firstOps line n) object ≡ store (λ key. nearest line object key n)
+  unfolding firstOps nearest
+  store-nearest zero object h = rw (le-ltb object 8 h)
+  store-nearest (suc n) object h =
+      ap (λ f. f object) (afterAll-snoc atStart (firstOps line n) (line n))
+      ∙ after-store (afterAll atStart (firstOps line n)) (line n) object (λ key. nearest line object key n) h (store-nearest n object h)

@@ -1,0 +1,9 @@
+-- The definitions, in the order of the scope.
+pub mod Codes
+pub mod Instructions
+pub mod Processes
+pub mod Rules
+pub mod Objects
+pub mod Logs
+pub mod Index
+pub mod Instance

@@ -1,0 +1,47 @@
+-- The objects: what an operation answers and leaves, and what its log line shows. Only this file knows the kinds of operations.
+use Prim.Native.Nat.{ℕ}
+use mathlib.Core.Bool.{Bool, cond}
+use lib.Dec.{eqb, ltb}
+use Rattle.text.specs.declared.report.Op.{Op}
+use Rattle.machine.specs.declared.objects.Cell.{Cell}
+use Rattle.machine.specs.declared.objects.Cell.the-variants.{Never, Put}
+
+-- a register has a value, a store a cell for each key
+pub data Content : Type 0 where
+  register : ℕ → Content
+  store : (ℕ → Cell) → Content
+
+-- objects 0 to 7 are registers, the others are stores
+abbrev pub isRegister : ℕ → Bool
+isRegister object = ltb object 8
+
+-- the objects at the start: 0 in each register, no key put in any store
+abbrev pub atStart : ℕ → Content
+atStart object = cond (isRegister object) (register 0) (store (λ key. Never))
+
+-- a key never put reads 0
+abbrev pub valueOf : Cell → ℕ
+valueOf Never = 0
+valueOf (Put v) = v
+
+-- what a register, at any key, or a store at a key reads
+abbrev pub reads : Content → (key : ℕ) → ℕ
+reads (register v) key = v
+reads (store cells) key = valueOf (cells key)
+
+-- kind 7 writes a register, kind 9 a store; nothing else writes
+abbrev pub isWrite : Op → Content → Bool
+isWrite o (register v) = eqb (o .kind) 7
+isWrite o (store cells) = eqb (o .kind) 9
+
+abbrev pub written : Op → Content → Content
+written o (register v) = register (o .value)
+written o (store cells) = store (λ key. cond (eqb (o .key) key) (Put (o .value)) (cells key))
+
+-- an operation's answer, 0 for a write, and what it leaves
+abbrev pub apply : Op → Content → ℕ × Content
+apply o c = (cond (isWrite o c) 0 (reads c (o .key)), cond (isWrite o c) (written o c) c)
+
+-- the value field of an operation's log line, given its answer
+abbrev pub logged : Op → ℕ → ℕ
+logged o answer = o .value

@@ -1,0 +1,72 @@
+-- A request as it goes on: up to and including its next operation, or to its reply, or to its cut.
+use Prim.Native.Nat.{ℕ, suc, zero, _+_, _-_, _%_}
+use mathlib.Core.List.{List, [], _∷_}
+use mathlib.Core.Bool.{cond}
+use lib.Dec.{ltb}
+use lib.ListN.{getD, set}
+use lib.Seq.{sets}
+use Rattle.text.specs.declared.programs.Instr.{Instr}
+use Rattle.machine.specs.declared.instructions.Act.{Act}
+use Rattle.machine.specs.declared.instructions.Act.the-variants.{Goes, Asks, Replies}
+use Rattle.machine.specs.declared.processes.Next.{Next}
+use Rattle.machine.specs.declared.processes.Next.the-variants.{Operation, Reply, Cut}
+use Rattle.machine.specs.declared.processes.Stop.{Stop}
+use Rattle.machine.specs.Instructions.{Effect, effectOf}
+
+-- the locals of a request with inputs a and b
+abbrev pub firstLocals : ℕ → ℕ → List ℕ
+firstLocals a b = a ∷ b ∷ 0 ∷ 0 ∷ 0 ∷ 0 ∷ 0 ∷ 0 ∷ []
+
+-- a request that has carried out this many instructions without a reply is cut off
+abbrev pub limit : ℕ
+limit = 256
+
+-- what stands past a program's end; the program rules keep a request from there
+abbrev pub halt : Instr
+halt = record { code = 0; a = 0; b = 0; c = 0 }
+
+-- the instruction at a position; positions count modulo 64, the room for a program's instructions
+abbrev pub instrAt : List Instr → ℕ → Instr
+instrAt p at = getD p (at % 64) halt
+
+-- a request that has gone on: its locals, where it stands and what it came to, and the positions of the instructions carried out on the way
+pub record Advanced : Type 0 where
+  pub locals : List ℕ
+  pub stop : Stop
+  pub path : List ℕ
+
+abbrev pub advanced : List ℕ → Stop → List ℕ → Advanced
+advanced l s path = record { locals = l; stop = s; path = path }
+
+abbrev pub stopAt : (at done : ℕ) → Next → Stop
+stopAt at done x = record { at = at; done = done; next = x }
+
+-- the instruction at a position was carried out before
+abbrev pub behind : ℕ → Advanced → Advanced
+behind at r = advanced (r .locals) (r .stop) (at ∷ r .path)
+
+-- what follows an instruction that came to x, with the locals l after it: f goes on
+abbrev pub follow : Act → List ℕ → (next done : ℕ) → (List ℕ → ℕ → Advanced) → Advanced
+follow (Goes to) l n done f = f l to
+follow (Asks o into) l n done f = advanced l (stopAt n done (Operation o into)) []
+follow (Replies v) l n done f = advanced l (stopAt n done (Reply v)) []
+
+-- a request with k instructions left, which has carried out `done`
+unfoldable pub go : (k : ℕ) → List Instr → List ℕ → (at done : ℕ) → Advanced
+go zero p l at done = advanced l (stopAt at done Cut) []
+go (suc k) p l at done =
+    behind (at % 64)
+    (follow (effectOf l (instrAt p at) (at % 64 + 1) .act) (effectOf l (instrAt p at) (at % 64 + 1) .locals) (at % 64 + 1) (done + 1)
+    (λ m to. go k p m to (done + 1)))
+
+-- under a limit of instructions in all; it is looked at before an instruction is fetched
+abbrev pub advanceOf : (limit : ℕ) → List Instr → List ℕ → (at done : ℕ) → Advanced
+advanceOf limit p l at done = go (limit - done) p l at done
+
+-- the answer v of an operation goes into its local; 8 is none
+abbrev pub resumed : List ℕ → ℕ → ℕ → List ℕ
+resumed l into v = cond (ltb into 8) (set l into v) l
+
+-- the same with the path kept in a buffer, behind the `done` positions that stand there, as far as there is room
+abbrev pub inBuffer : List ℕ → ℕ → Advanced → Advanced
+inBuffer b done r = advanced (r .locals) (r .stop) (sets b done (r .path))
