@@ -1,0 +1,2 @@
+-- Computed examples
+mod Stars

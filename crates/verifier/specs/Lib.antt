@@ -1,0 +1,3 @@
+-- The definitions, in reading order.
+pub mod Faults
+pub mod Accepts
