@@ -77,7 +77,7 @@ cases =
 
 stars : map audits cases ≡ map (λ c. c .finds) cases
 unfolding auditOf readPrograms readTrace readReport readText readLines addLine lineOf fieldsOf fieldOf prefix numberOf digitsOf pushOf
-  parts onto within count addProgram addDo addRequest addResponse addOf addLog programs instructions go effectAs upd bump
+    parts onto within count addProgram addDo addRequest addResponse addOf addLog programs instructions go effectAs upd bump
 stars = refl
 
 -- ── the small examples of rows 1 to 8 ──
@@ -107,5 +107,5 @@ small =
 
 rows-1-to-8 : map audits small ≡ map (λ c. c .finds) small
 unfolding auditOf readPrograms readTrace readReport readText readLines addLine lineOf fieldsOf fieldOf prefix numberOf digitsOf pushOf
-  parts onto within count addProgram addDo addRequest addResponse addOf addLog programs instructions go effectAs upd bump
+    parts onto within count addProgram addDo addRequest addResponse addOf addLog programs instructions go effectAs upd bump
 rows-1-to-8 = refl
