@@ -1,4 +1,7 @@
 // The audit: the first fault of programs, trace and report, in the order of the scope's table.
+mod report_rows;
+mod trace_rows;
+
 // What the audit finds: the number of the verdict with its line, and on acceptance how many `request` and how many `log` lines there are.
 pub struct Audited {
     pub verdict: u64,
