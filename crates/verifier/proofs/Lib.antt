@@ -2,5 +2,7 @@
 pub mod Scans
 pub mod TraceScans
 pub mod ReportScans
+-- Demand 3 for texts
+pub mod Acceptance
 -- Computed examples
 mod Stars
