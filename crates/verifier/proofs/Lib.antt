@@ -2,6 +2,7 @@
 pub mod Scans
 pub mod TraceScans
 pub mod ReportScans
+pub mod ReportRanges
 -- Demand 3 for texts
 pub mod Acceptance
 -- Computed examples
