@@ -3,6 +3,8 @@ pub mod Scans
 pub mod TraceScans
 pub mod ReportScans
 pub mod ReportRanges
+pub mod Tables
+pub mod SameReplays
 -- Demand 3 for texts
 pub mod Acceptance
 -- Computed examples
