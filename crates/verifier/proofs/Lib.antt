@@ -2,6 +2,7 @@
 pub mod Scans
 pub mod TraceScans
 pub mod ReportScans
+pub mod PrintedLines
 pub mod ReportRanges
 pub mod Tables
 pub mod SameReplays

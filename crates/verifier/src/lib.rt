@@ -1,4 +1,5 @@
 // The audit: the first fault of programs, trace and report, in the order of the scope's table.
+mod printing;
 mod report_rows;
 mod trace_rows;
 
