@@ -1,0 +1,6 @@
+-- The laws that the functions' proofs cite.
+pub mod Places
+pub mod Links
+pub mod Searches
+pub mod Claimed
+pub mod Replaying

@@ -1,0 +1,121 @@
+-- What the private functions promise.
+use mathlib.Core.Bool.{Bool, true, false, cond}
+use mathlib.Core.List.{List, [], _∷_}
+use mathlib.Core.Path.{_≡_}
+use Prim.Native.Nat.{ℕ, zero, suc, _+_, _-_, _*_, _%_, _≤_, _<_}
+use lib.Dec.{eqb, ltb}
+use lib.ListN.{getD, length, replicate}
+use Rattle.text.specs.Held.{eventAt, ofAt, entryAt, noProgram}
+use Rattle.text.specs.Rows.{firsts}
+use Rattle.text.specs.declared.programs.Instr.{Instr}
+use Rattle.text.specs.declared.programs.Program.{Program}
+use Rattle.text.specs.declared.report.Entry.{Entry}
+use Rattle.text.specs.declared.report.Of.{Of}
+use Rattle.text.specs.declared.report.Op.{Op}
+use Rattle.text.specs.declared.trace.Event.the-variants.{Request, Response}
+use Rattle.text.specs.declared.trace.Event.{Event}
+use Rattle.model.specs.Audit.{bad10, bad11, bad12}
+use Rattle.model.specs.Nodes.{Node, ev, ln, rid}
+use Rattle.model.specs.Replay.{Reply, silent, said, Outcome, differs, ended, Answer, wrong, right, claim, compare, replay}
+use Rattle.machine.specs.Instance.{Process, codeAt}
+use Rattle.machine.specs.Logs.{after}
+use Rattle.machine.specs.Objects.{Content, apply, atStart}
+use Rattle.machine.specs.Processes.{limit}
+use Rattle.replay.specs.Judges.{machineOf}
+use Rattle.replay.specs.declared.claims.Answered.{Answered}
+use Rattle.replay.specs.declared.replays.End.{End}
+use Rattle.replay.specs.declared.replays.End.the-variants.{Differs, Ended}
+use Rattle.replay.specs.declared.claims.Answered.the-variants.{Wrong, Right}
+
+-- ── a scan ──
+-- s is the first place from i on where P holds, of the places below n; where there is none, s is not below n
+pub record FirstFrom (P : ℕ → Bool) (i n s : ℕ) : Type 0 where
+  pub skipped : (k : ℕ) → i ≤ k → k < s → k < n → P k ≡ false
+  pub found : s < n → (i ≤ s) × (P s ≡ true)
+
+-- whether an event is the request, the response of a rid
+abbrev pub opens : ℕ → Event → Bool
+opens r (Request q prog a b) = eqb q r
+opens r (Response q status value) = false
+
+abbrev pub closes : ℕ → Event → Bool
+closes r (Request q prog a b) = false
+closes r (Response q status value) = eqb q r
+
+-- ── claims ──
+-- log lines by request and number: the bucket of a line, below 1,024
+abbrev pub bucketOf : (rid num : ℕ) → ℕ
+bucketOf r k = (r % 1024 * 67 + k % 1024) % 1024
+
+abbrev pub inBucket : (ℕ → Entry) → ℕ → ℕ → Bool
+inBucket line b i = eqb (bucketOf (line i .rid) (line i .num)) b
+
+-- of the lines from i on, the first of each bucket, and behind each line the next of its bucket
+pub record Linked (line : ℕ → Entry) (n i : ℕ) (heads afters : List ℕ) : Type 0 where
+  pub heads-room : length heads ≡ 1024
+  pub afters-room : length afters ≡ 1024
+  pub head : (b : ℕ) → b < 1024 → FirstFrom (inBucket line b) i n (getD heads b 0)
+  pub next : (j : ℕ) → i ≤ j → j < n → FirstFrom (inBucket line (bucketOf (line j .rid) (line j .num))) (suc j) n (getD afters j 0)
+
+-- what i items of a sequence, one after the other, make of a state
+module _ {A S : Type 0} (next : S → A → S) where
+  abbrev pub stateAt : (ℕ → A) → S → ℕ → S
+  stateAt f c zero = c
+  stateAt f c (suc i) = stateAt (λ j. f (suc j)) (next c (f 0)) i
+
+-- the objects above line i, and what its operation answers
+abbrev pub contentsAt : (ℕ → Entry) → ℕ → ℕ → Content
+contentsAt line i = stateAt (λ c l. after c (l .op)) line atStart i
+
+abbrev pub answerAt : (ℕ → Entry) → ℕ → ℕ
+answerAt line i = apply (line i .op) (contentsAt line i (line i .op .object)) .0
+
+-- the log, ready for replays: its lines by request and number, and their answers
+pub record Prepared (logs : List ℕ) (n : ℕ) (heads afters answers : List ℕ) : Type 0 where
+  pub few : n ≤ 1024
+  pub index : Linked (entryAt logs) n 0 heads afters
+  pub room : length answers ≡ 1024
+  pub answer : (i : ℕ) → i < n → getD answers i 0 ≡ answerAt (entryAt logs) i
+
+-- the arrays for it, before
+pub record Blank (n : ℕ) (heads afters answers : List ℕ) : Type 0 where
+  pub few : n ≤ 1024
+  pub none-linked : heads ≡ replicate 1024 1024
+  pub afters-room : length afters ≡ 1024
+  pub answers-room : length answers ≡ 1024
+
+-- an operation held against the line that claims it
+abbrev pub answeredAs : Answered → Answer
+answeredAs Wrong = wrong
+answeredAs (Right v) = right v
+
+abbrev pub Answers : List ℕ → ℕ → (rid num : ℕ) → Op → Answered → Type 0
+Answers logs n r k o x = (table : List Program) →
+    answeredAs x ≡ compare (machineOf table) o (claim (machineOf table) (firsts (entryAt logs) n) atStart r k)
+
+-- ── replays ──
+-- the path of a request: its positions stand in its row of 256
+abbrev pub pathIn : List ℕ → (base done : ℕ) → List ℕ
+pathIn paths base done = firsts (λ i. getD paths (base + i) 0) done
+
+abbrev pub doneIn : End → ℕ
+doneIn Differs = 0
+doneIn (Ended status value done) = done
+
+-- how a replay came out, of a request of program `prog`
+abbrev pub outcomeIn : (prog : ℕ) → List ℕ → (base : ℕ) → End → Outcome
+outcomeIn prog paths base Differs = differs
+outcomeIn prog paths base (Ended status value done) = ended (said status value) (prog ∷ pathIn paths base done)
+
+-- the replay of a process that has `left` operations to do, the next of which has the number k
+abbrev pub replayOf : List Program → (logs : List ℕ) (n rid : ℕ) → Reply → (left k : ℕ) → Process → Outcome
+replayOf table logs n r reply left k p =
+    replay (machineOf table) (claim (machineOf table) (firsts (entryAt logs) n) atStart r) reply left k p (machineOf table .advance p)
+
+-- the replay of a request with inputs a and b, whatever its program's number and its response
+pub record Replays (logs : List ℕ) (n rid count a b base : ℕ) (code : List Instr) (old paths : List ℕ) (end : End) : Type 0 where
+  pub room : length paths ≡ 16384
+  pub kept : (i : ℕ) → i < base → getD paths i 0 ≡ getD old i 0
+  pub few : doneIn end ≤ 256
+  pub outcome : (table : List Program) (prog s v : ℕ) → codeAt limit table prog ≡ code →
+      outcomeIn prog paths base end ≡ replayOf table logs n rid (said s v) count 1 (machineOf table .start prog a b)
