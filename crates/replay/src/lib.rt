@@ -2,6 +2,7 @@
 mod claims;
 mod lookups;
 mod replays;
+mod requests;
 
 // The first fault of rows 9 to 12: row 0 and line 0 where there is none.
 pub struct Fault {
