@@ -7,3 +7,5 @@ pub mod Replaying
 pub mod Paths
 pub mod Rows
 pub mod Judging
+pub mod Items
+pub mod Faults

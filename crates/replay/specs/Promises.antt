@@ -14,8 +14,8 @@ use Rattle.text.specs.declared.report.Of.{Of}
 use Rattle.text.specs.declared.report.Op.{Op}
 use Rattle.text.specs.declared.trace.Event.the-variants.{Request, Response}
 use Rattle.text.specs.declared.trace.Event.{Event}
-use Rattle.model.specs.Audit.{bad10, bad11, bad12, replayChecks}
-use Rattle.model.specs.Checks.{verdict, firstFault}
+use Rattle.model.specs.Audit.{bad10, bad11, bad12, replayChecks, row9}
+use Rattle.model.specs.Checks.{verdict, firstFault, breaks}
 use Rattle.model.specs.Nodes.{Node, ev, ln, rid}
 use Rattle.model.specs.Replay.{Reply, silent, said, Outcome, differs, ended, Answer, wrong, right, claim, compare, replay}
 use Rattle.machine.specs.Instance.{Process, codeAt}
@@ -147,3 +147,35 @@ abbrev pub JudgesRequests : List Program → (events : List ℕ) (t : ℕ) (ofs 
 JudgesRequests table events t ofs m logs n r = (known : ℕ → Bool) → Ready known (batchOf events t ofs m logs n) →
     verdict (r .row) (r .line)
     ≡ firstFault (replayChecks (machineOf table) atStart (batchOf events t ofs m logs n) 1 (batchOf events t ofs m logs n .ofs))
+
+-- ── items ──
+-- item i of a batch with n log lines
+abbrev pub nodeAt : (events logs : List ℕ) (n i : ℕ) → Node
+nodeAt events logs n i = cond (ltb i n) (ln (entryAt logs i)) (ev (eventAt events (i - n)))
+
+-- an item's lane and number as the arrays can hold them; c is its request's count
+abbrev pub laneIn : Node → ℕ
+laneIn (ev e) = 0
+laneIn (ln l) = l .op .object % 16 + 1
+
+abbrev pub numberIn : (c : ℕ) → Node → ℕ
+numberIn c (ev (Request r prog a b)) = 0
+numberIn c (ev (Response r status value)) = c % 65535 + 1
+numberIn c (ln l) = l .num % 65536
+
+pub record ItemIs (ofs : List ℕ) (m : ℕ) (x : Node) (lane request number : ℕ) : Type 0 where
+  pub lane-is : lane ≡ laneIn x
+  pub place : FirstFrom (λ i. eqb (ofAt ofs i .rid) (rid x)) 0 m request
+  pub number-is : number ≡ numberIn (ofAt ofs request .count) x
+
+-- the first i items stand in the arrays
+pub record ItemsTo (events ofs : List ℕ) (m : ℕ) (logs : List ℕ) (n i : ℕ) (lane request number : List ℕ) : Type 0 where
+  pub lane-room : length lane ≡ 1152
+  pub request-room : length request ≡ 1152
+  pub number-room : length number ≡ 1152
+  pub items : (j : ℕ) → j < i → ItemIs ofs m (nodeAt events logs n j) (getD lane j 0) (getD request j 0) (getD number j 0)
+
+-- row 9, of a batch that is ready
+abbrev pub Returns : (events : List ℕ) (t : ℕ) (ofs : List ℕ) (m : ℕ) (logs : List ℕ) (n : ℕ) → Bool → Type 0
+Returns events t ofs m logs n r = (known : ℕ → Bool) → Ready known (batchOf events t ofs m logs n) →
+    breaks r 0 ≡ row9 (batchOf events t ofs m logs n)
