@@ -4,3 +4,8 @@ pub mod Links
 pub mod Searches
 pub mod Claimed
 pub mod Replaying
+pub mod Paths
+pub mod Rows
+pub mod Judging
+pub mod Items
+pub mod Faults

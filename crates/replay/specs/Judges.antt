@@ -17,10 +17,13 @@ use Rattle.machine.specs.Objects.{atStart}
 use Rattle.machine.specs.Processes.{limit}
 use Rattle.replay.specs.declared.Fault.{Fault}
 
--- the batch: as many lines of each kind as are said, and no more than there is room for
+-- the batch of the first lines of each kind
+abbrev pub batchOf : (events : List ℕ) (t : ℕ) (ofs : List ℕ) (m : ℕ) (logs : List ℕ) (n : ℕ) → Batch
+batchOf events t ofs m logs n = record { trace = firsts (eventAt events) t; ofs = firsts (ofAt ofs) m; log = firsts (entryAt logs) n }
+
+-- as many lines as are said, and no more than there is room for
 abbrev pub batchIn : (events : List ℕ) (t : ℕ) (ofs : List ℕ) (m : ℕ) (logs : List ℕ) (n : ℕ) → Batch
-batchIn events t ofs m logs n =
-    record { trace = firsts (eventAt events) (min t 128); ofs = firsts (ofAt ofs) (min m 64); log = firsts (entryAt logs) (min n 1024) }
+batchIn events t ofs m logs n = batchOf events (min t 128) ofs (min m 64) logs (min n 1024)
 
 -- What is known of a batch when row 9 is looked at: no row from 4 to 8 holds, there are at most 16 programs, and objects and counts are in
 -- the range of a readable report.

@@ -14,15 +14,19 @@ use Rattle.text.specs.declared.report.Of.{Of}
 use Rattle.text.specs.declared.report.Op.{Op}
 use Rattle.text.specs.declared.trace.Event.the-variants.{Request, Response}
 use Rattle.text.specs.declared.trace.Event.{Event}
-use Rattle.model.specs.Audit.{bad10, bad11, bad12}
+use Rattle.model.specs.Audit.{bad10, bad11, bad12, replayChecks, row9}
+use Rattle.model.specs.Checks.{verdict, firstFault, breaks}
 use Rattle.model.specs.Nodes.{Node, ev, ln, rid}
 use Rattle.model.specs.Replay.{Reply, silent, said, Outcome, differs, ended, Answer, wrong, right, claim, compare, replay}
 use Rattle.machine.specs.Instance.{Process, codeAt}
 use Rattle.machine.specs.Logs.{after}
 use Rattle.machine.specs.Objects.{Content, apply, atStart}
 use Rattle.machine.specs.Processes.{limit}
-use Rattle.replay.specs.Judges.{machineOf}
+use Rattle.replay.specs.Judges.{batchOf, Ready, machineOf}
+use Rattle.replay.specs.declared.Fault.{Fault}
 use Rattle.replay.specs.declared.claims.Answered.{Answered}
+use Rattle.replay.specs.declared.replays.Arrival.{Arrival}
+use Rattle.replay.specs.declared.requests.Said.{Said}
 use Rattle.replay.specs.declared.replays.End.{End}
 use Rattle.replay.specs.declared.replays.End.the-variants.{Differs, Ended}
 use Rattle.replay.specs.declared.claims.Answered.the-variants.{Wrong, Right}
@@ -119,3 +123,59 @@ pub record Replays (logs : List ℕ) (n rid count a b base : ℕ) (code : List I
   pub few : doneIn end ≤ 256
   pub outcome : (table : List Program) (prog s v : ℕ) → codeAt limit table prog ≡ code →
       outcomeIn prog paths base end ≡ replayOf table logs n rid (said s v) count 1 (machineOf table .start prog a b)
+
+-- ── rows 10 to 12 of one request ──
+-- the row that a request breaks first, 0 if none: its outcome, its response, and the outcome of the first request of its group
+abbrev pub rowOf : Outcome → Reply → Outcome → ℕ
+rowOf o reply first = cond (bad10 o) 10 (cond (bad11 reply o) 11 (cond (bad12 first o) 12 0))
+
+-- the path kept for the request in a slot
+abbrev pub pathAt : (progs lengths paths : List ℕ) → (slot : ℕ) → List ℕ
+pathAt progs lengths paths slot = getD progs slot 0 ∷ pathIn paths (slot * 256) (getD lengths slot 0)
+
+-- what an event says of its request
+abbrev pub arrivalOf : Event → Arrival
+arrivalOf (Request r prog a b) = record { prog = prog; a = a; b = b }
+arrivalOf (Response r status value) = record { prog = 0; a = 0; b = 0 }
+
+abbrev pub replyOf : Event → Said
+replyOf (Request r prog a b) = record { status = 0; value = 0 }
+replyOf (Response r status value) = record { status = status; value = value }
+
+-- the fault r is the first of rows 10 to 12
+abbrev pub JudgesRequests : List Program → (events : List ℕ) (t : ℕ) (ofs : List ℕ) (m : ℕ) (logs : List ℕ) (n : ℕ) → Fault → Type 0
+JudgesRequests table events t ofs m logs n r = (known : ℕ → Bool) → Ready known (batchOf events t ofs m logs n) →
+    verdict (r .row) (r .line)
+    ≡ firstFault (replayChecks (machineOf table) atStart (batchOf events t ofs m logs n) 1 (batchOf events t ofs m logs n .ofs))
+
+-- ── items ──
+-- item i of a batch with n log lines
+abbrev pub nodeAt : (events logs : List ℕ) (n i : ℕ) → Node
+nodeAt events logs n i = cond (ltb i n) (ln (entryAt logs i)) (ev (eventAt events (i - n)))
+
+-- an item's lane and number as the arrays can hold them; c is its request's count
+abbrev pub laneIn : Node → ℕ
+laneIn (ev e) = 0
+laneIn (ln l) = l .op .object % 16 + 1
+
+abbrev pub numberIn : (c : ℕ) → Node → ℕ
+numberIn c (ev (Request r prog a b)) = 0
+numberIn c (ev (Response r status value)) = c % 65535 + 1
+numberIn c (ln l) = l .num % 65536
+
+pub record ItemIs (ofs : List ℕ) (m : ℕ) (x : Node) (lane request number : ℕ) : Type 0 where
+  pub lane-is : lane ≡ laneIn x
+  pub place : FirstFrom (λ i. eqb (ofAt ofs i .rid) (rid x)) 0 m request
+  pub number-is : number ≡ numberIn (ofAt ofs request .count) x
+
+-- the first i items stand in the arrays
+pub record ItemsTo (events ofs : List ℕ) (m : ℕ) (logs : List ℕ) (n i : ℕ) (lane request number : List ℕ) : Type 0 where
+  pub lane-room : length lane ≡ 1152
+  pub request-room : length request ≡ 1152
+  pub number-room : length number ≡ 1152
+  pub items : (j : ℕ) → j < i → ItemIs ofs m (nodeAt events logs n j) (getD lane j 0) (getD request j 0) (getD number j 0)
+
+-- row 9, of a batch that is ready
+abbrev pub Returns : (events : List ℕ) (t : ℕ) (ofs : List ℕ) (m : ℕ) (logs : List ℕ) (n : ℕ) → Bool → Type 0
+Returns events t ofs m logs n r = (known : ℕ → Bool) → Ready known (batchOf events t ofs m logs n) →
+    breaks r 0 ≡ row9 (batchOf events t ofs m logs n)

@@ -21,8 +21,10 @@ loop-holds : tie.Need-loop-holds Inv-loop μ-loop
 loop-holds c = (omega arith, λ k h. absurd (omega arith))
 
 returns : tie.Need-returns Inv-loop μ-loop
-returns c = here _ _ _ (c .before .before .before .before .loop .inv .1)
-    (rw (sym (c .before .before .of-at .ensures)) (eq-eqb _ _ (c .if1 .taken)))
+returns c = (
+  omega arith,
+  here _ _ _ (c .before .before .before .before .loop .inv .1) (rw (sym (c .before .before .of-at .ensures)) (eq-eqb _ _ (c .if1 .taken))),
+)
 
 loop-again : tie.Need-loop-again Inv-loop μ-loop
 loop-again c = (
@@ -32,7 +34,7 @@ loop-again c = (
 )
 
 returns-2 : tie.Need-returns-2 Inv-loop μ-loop
-returns-2 c = nowhere _ _ _ (c .before .loop .inv .1) (omega arith)
+returns-2 c = (omega arith, nowhere _ _ _ (c .before .loop .inv .1) (omega arith))
 
 pub slot-of-spec : {M : Type 1} → statement M
 slot-of-spec =
