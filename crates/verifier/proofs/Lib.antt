@@ -6,6 +6,7 @@ pub mod PrintedLines
 pub mod ReportRanges
 pub mod Tables
 pub mod SameReplays
+pub mod Verdicts
 -- Demand 3 for texts
 pub mod Acceptance
 -- Computed examples

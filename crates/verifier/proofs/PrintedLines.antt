@@ -2,7 +2,7 @@
 use Prim.Native.Nat.{ℕ, _+_, _-_, _≤_}
 use mathlib.Core.Bool.{true, false}
 use mathlib.Core.List.{List, [], _∷_, _++_, append-nil}
-use mathlib.Core.Path.{_≡_, refl, sym, ap, _∙_}
+use mathlib.Core.Path.{_≡_, refl, sym, ap, _∙_, subst}
 use native.Mathlib.Omega.{arith}
 use borrow.Author.Tests.{le-ltb}
 use lib.ListN.{length, take, drop, length-append, length-drop}
@@ -72,3 +72,6 @@ lent out at ys = take at out ++ (ys ++ drop (length out - at) (drop at out))
 -- the next line p has room in `&mut out[at..]`
 pub line-room : {t o out : List ℕ} {at : ℕ} (p u : List ℕ) → Writing t o out at (p ++ u) → length p ≤ length (take (length out - at) (drop at out))
 line-room {t} {o} {out} {at} p u w = rw (rest-all at out) (omega (arith, writing-room w, length-append p u, length-drop at out))
+
+pub put-as : (a b : Audited) (o p : List ℕ) (r : Put) → a ≡ b → PutIs (auditedText a) o p r → PutIs (auditedText b) o p r
+put-as a b o p r e h = subst (λ x. PutIs (auditedText x) o p r) e h

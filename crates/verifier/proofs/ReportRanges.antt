@@ -17,6 +17,7 @@ use Rattle.text.specs.declared.report.Entry.{Entry}
 use Rattle.ordering.specs.Lists.{All}
 use Rattle.ordering.proofs.Basics.{clash}
 use Rattle.ordering.proofs.Lists.{all-append}
+use Rattle.verifier.specs.Steps.{InRange}
 
 -- ── a fact that each kind of line keeps is kept by a whole text ──
 module _ {S : Type 0} (P : S → Type 0) where
@@ -57,10 +58,6 @@ module _ {S : Type 0} (P : S → Type 0) where
       by false e = lines-keep ks h 1 x y (parts 10 s) g e
 
 -- ── the report ──
-pub record InRange (r : Report) : Type 0 where
-  pub objects : All (λ l. l .op .object < 16) (r .log)
-  pub counts : All (λ x. x .count ≤ 256) (r .ofs)
-
 within-some : {A : Type 0} (n m : ℕ) (x y : A) → within n m x ≡ some y → x ≡ y
 unfolding within
 within-some {A} n m x y e = by (ltb n m) e

@@ -1,5 +1,6 @@
 // A result as the lines that the program prints.
 use crate::Audited;
+use crate::audits::audit;
 use lines::Fields;
 use lines::Put;
 use lines::numbers_width;
@@ -10,6 +11,7 @@ ghost use Prim.Native.Nat.{_≤_};
 ghost use lib.ListN.{length};
 ghost use Rattle.lines.specs.LineText.{numbersText, lineText};
 ghost use Rattle.lines.specs.Put.{front, PutIs};
+ghost use Rattle.verifier.specs.Faults.{auditOf};
 ghost use Rattle.verifier.specs.Printed.{auditedText};
 
 // How long a number is on its line, the line feed included.
@@ -66,4 +68,11 @@ fn put_audited(a: Audited, out: &mut [u8]) -> Put
     at += fill_number(&mut out[at..], b"requests=", a.requests);
     at += fill_number(&mut out[at..], b"operations=", a.operations);
     Put::Wrote(at)
+}
+
+// The audit of three texts as it is printed: its four lines to the front of out, or nothing where out is too short.
+pub fn audit_text(programs: &[u8], trace: &[u8], report: &[u8], out: &mut [u8]) -> Put
+    ensures { λ r. ⌜ PutIs (auditedText (auditOf (now (programs .entry)) (now (trace .entry)) (now (report .entry)))) (now (out .entry)) (now (out .exit)) r ⌝ }
+{
+    put_audited(audit(programs, trace, report), out)
 }

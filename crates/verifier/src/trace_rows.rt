@@ -100,7 +100,7 @@ fn may_stand(events: &[u64; 640], i: usize, e: Event, programs: usize) -> bool
 }
 
 // Row 4 line by line: rid used twice, unknown program, response with no open request.
-fn row_4(events: &[u64; 640], t: usize, programs: usize) -> Ruling
+pub fn row_4(events: &[u64; 640], t: usize, programs: usize) -> Ruling
     ensures { λ r. ⌜ brokenLine r ≡ row4 (λ prog. ltb prog programs) (firsts (eventAt (now (events .entry))) t) ⌝ }
 {
     let mut i: usize = 0;
@@ -153,7 +153,7 @@ fn settled(events: &[u64; 640], n: usize, e: Event) -> bool
 }
 
 // Row 4 behind its lines: request never answered.
-fn row_4_open(events: &[u64; 640], t: usize) -> Ruling
+pub fn row_4_open(events: &[u64; 640], t: usize) -> Ruling
     ensures { λ r. ⌜ brokenLine r ≡ row4Open (firsts (eventAt (now (events .entry))) t) ⌝ }
 {
     let mut i: usize = 0;
