@@ -1,0 +1,14 @@
+-- `line_item` meets its contract.
+use mathlib.Core.Path.{refl}
+use native.Mathlib.Omega.{arith}
+use borrow.Author.Needs.{needs}
+use Rattle.replay.proofs.orders.line_item.Statement.{statement}
+use Rattle.replay.proofs.orders.line_item.Tie as tie
+
+returns : tie.Need-returns
+returns c = record { lane-is = refl; place = c .before .before .before .slot-of .ensures .1; number-is = refl }
+
+pub line-item-spec : {M : Type 1} → statement M
+line-item-spec =
+    tie.close
+    (tie.spec (λ c κs. search needs) (λ c. search needs) (λ c. search needs) (λ c. search needs) (λ c. search needs) returns)

@@ -1,0 +1,131 @@
+// The log lines that claim operations, found by request and number, and what they answer.
+use text::Op;
+use text::entry_at;
+ghost use mathlib.Core.Path.{_≡_};
+ghost use mathlib.Core.Bool.{_&&_};
+ghost use Prim.Native.Nat.{_≤_};
+ghost use lib.Dec.{eqb};
+ghost use lib.ListN.{length, replicate};
+ghost use Rattle.text.specs.Held.{entryAt};
+ghost use Rattle.model.specs.Batch.{claims};
+ghost use Rattle.model.specs.Replay.{sameOp};
+ghost use Rattle.replay.specs.Promises.{FirstFrom, bucketOf, Linked, Blank, Prepared, Answers};
+
+fn bucket(rid: u64, num: u64) -> usize
+    ensures { λ r. ⌜ r ≡ bucketOf rid num ⌝ }
+{
+    ((rid % 1024 * 67 + num % 1024) % 1024) as usize
+}
+
+fn wide(x: u16) -> usize
+    ensures { λ r. ⌜ r ≡ x ⌝ }
+{
+    x as usize
+}
+
+// Links the first n lines bucket by bucket, in one pass from the back, so that each chain goes downward in the report.
+pub fn link_lines(logs: &[u64; 6144], n: usize, heads: &mut [u16; 1024], afters: &mut [u16; 1024])
+    requires { ⌜ (n ≤ 1024) × (now heads ≡ replicate 1024 1024) × (length (now afters) ≡ 1024) ⌝ }
+    ensures { λ _. ⌜ Linked (entryAt (now (logs .entry))) n 0 (now (heads .exit)) (now (afters .exit)) ⌝ }
+{
+    let mut i: usize = n;
+    while 0 < i {
+        i -= 1;
+        let x = entry_at(logs, i);
+        let b = bucket(x.rid, x.num);
+        let h = heads[b];
+        afters[i] = h;
+        heads[b] = i as u16;
+    }
+}
+
+fn is_claim(logs: &[u64; 6144], i: usize, rid: u64, num: u64) -> bool
+    ensures { λ r. ⌜ r ≡ claims rid num (entryAt (now (logs .entry)) i) ⌝ }
+{
+    let x = entry_at(logs, i);
+    if x.rid == rid { x.num == num } else { false }
+}
+
+// The line that claims an operation, or n.
+fn claim_at(
+    logs: &[u64; 6144],
+    n: usize,
+    heads: &[u16; 1024],
+    afters: &[u16; 1024],
+    rid: u64,
+    num: u64,
+) -> usize
+    requires { ⌜ (n ≤ 1024) × Linked (entryAt (now logs)) n 0 (now heads) (now afters) ⌝ }
+    ensures { λ r. ⌜ FirstFrom (λ i. claims rid num (entryAt (now (logs .entry)) i)) 0 n r ⌝ }
+{
+    let mut j = wide(heads[bucket(rid, num)]);
+    while j < n {
+        if is_claim(logs, j, rid, num) {
+            return j;
+        }
+        j = wide(afters[j]);
+    }
+    n
+}
+
+fn same_op(a: Op, b: Op) -> bool
+    ensures { λ r. ⌜ r ≡ sameOp a b ⌝ }
+{
+    if a.object != b.object {
+        return false;
+    }
+    if a.kind != b.kind {
+        return false;
+    }
+    if a.key != b.key {
+        return false;
+    }
+    a.value == b.value
+}
+
+// An operation held against the line that claims it: not the same, or its answer.
+pub enum Answered {
+    Wrong,
+    Right(u64),
+}
+
+// Operation num of a request, which is o.
+pub fn answer_of(
+    logs: &[u64; 6144],
+    n: usize,
+    heads: &[u16; 1024],
+    afters: &[u16; 1024],
+    answers: &[u64; 1024],
+    rid: u64,
+    num: u64,
+    o: Op,
+) -> Answered
+    requires { ⌜ Prepared (now logs) n (now heads) (now afters) (now answers) ⌝ }
+    ensures { λ r. ⌜ Answers (now (logs .entry)) n rid num o r ⌝ }
+{
+    let i = claim_at(logs, n, heads, afters, rid, num);
+    if n <= i {
+        return Answered::Wrong;
+    }
+    let x = entry_at(logs, i);
+    if same_op(x.op, o) {
+        Answered::Right(answers[i])
+    } else {
+        Answered::Wrong
+    }
+}
+
+// Links the lines, and has their answers.
+pub fn prepare(
+    logs: &[u64; 6144],
+    n: usize,
+    heads: &mut [u16; 1024],
+    afters: &mut [u16; 1024],
+    answers: &mut [u64; 1024],
+)
+    requires { ⌜ Blank n (now heads) (now afters) (now answers) ⌝ }
+    ensures { λ _. ⌜ Prepared (now (logs .entry)) n (now (heads .exit)) (now (afters .exit)) (now (answers .exit)) ⌝ }
+{
+    link_lines(logs, n, heads, afters);
+    machine::answers(logs, n, answers);
+}

@@ -1,0 +1,132 @@
+// Row 9: the items of a batch for the merge, log lines first and then trace events, and what the merge leaves.
+use crate::lookups::slot_of;
+use text::Entry;
+use text::Event;
+use text::entry_at;
+use text::event_at;
+use text::of_at;
+ghost use mathlib.Core.Path.{_≡_};
+ghost use Prim.Native.Nat.{_≤_, _<_, _+_};
+ghost use lib.ListN.{length};
+ghost use Rattle.model.specs.Nodes.{ev, ln};
+ghost use Rattle.replay.specs.Promises.{ItemIs, nodeAt, ItemsTo, Returns};
+
+// An item's lane (0 the trace, 1 + object), the slot of its request, and its number there.
+pub struct Item {
+    pub lane: u8,
+    pub request: u8,
+    pub number: u16,
+}
+
+fn line_item(ofs: &[u64; 192], m: usize, x: Entry) -> Item
+    requires { ⌜ m ≤ 64 ⌝ }
+    ensures { λ r. ⌜ ItemIs (now (ofs .entry)) m (ln x) (r .lane) (r .request) (r .number) ⌝ }
+{
+    let s = slot_of(ofs, m, x.rid);
+    let o = x.op;
+    Item {
+        lane: (o.object % 16 + 1) as u8,
+        request: s as u8,
+        number: (x.num % 65536) as u16,
+    }
+}
+
+fn event_item(ofs: &[u64; 192], m: usize, x: Event) -> Item
+    requires { ⌜ m ≤ 64 ⌝ }
+    ensures { λ r. ⌜ ItemIs (now (ofs .entry)) m (ev x) (r .lane) (r .request) (r .number) ⌝ }
+{
+    match x {
+        Event::Request { rid, .. } => {
+            let s = slot_of(ofs, m, rid);
+            Item {
+                lane: 0,
+                request: s as u8,
+                number: 0,
+            }
+        }
+        Event::Response { rid, .. } => {
+            let s = slot_of(ofs, m, rid);
+            let y = of_at(ofs, s);
+            Item {
+                lane: 0,
+                request: s as u8,
+                number: (y.count % 65535 + 1) as u16,
+            }
+        }
+    }
+}
+
+// Item i: log line i, or an event.
+fn item_at(
+    events: &[u64; 640],
+    ofs: &[u64; 192],
+    m: usize,
+    logs: &[u64; 6144],
+    n: usize,
+    i: usize,
+) -> Item
+    requires { ⌜ m ≤ 64 ⌝ }
+    ensures { λ r. ⌜ ItemIs (now (ofs .entry)) m (nodeAt (now (events .entry)) (now (logs .entry)) n i) (r .lane) (r .request) (r .number) ⌝ }
+{
+    if i < n {
+        line_item(ofs, m, entry_at(logs, i))
+    } else {
+        event_item(ofs, m, event_at(events, i - n))
+    }
+}
+
+// The items, written to the front of the three arrays.
+fn put_items(
+    events: &[u64; 640],
+    t: usize,
+    ofs: &[u64; 192],
+    m: usize,
+    logs: &[u64; 6144],
+    n: usize,
+    lane: &mut [u8; 1152],
+    request: &mut [u8; 1152],
+    number: &mut [u16; 1152],
+)
+    requires { ⌜ (t ≤ 128) × (m ≤ 64) × (n ≤ 1024) × (length (now lane) ≡ 1152) × (length (now request) ≡ 1152) × (length (now number) ≡ 1152) ⌝ }
+    ensures { λ _. ⌜ ItemsTo (now (events .entry)) (now (ofs .entry)) m (now (logs .entry)) n (n + t) (now (lane .exit)) (now (request .exit)) (now (number .exit)) ⌝ }
+{
+    let mut i: usize = 0;
+    while i < n + t {
+        let x = item_at(events, ofs, m, logs, n, i);
+        lane[i] = x.lane;
+        request[i] = x.request;
+        number[i] = x.number;
+        i += 1;
+    }
+}
+
+// Whether the order returns to itself: the merge leaves something over.
+pub fn returns(
+    events: &[u64; 640],
+    t: usize,
+    ofs: &[u64; 192],
+    m: usize,
+    logs: &[u64; 6144],
+    n: usize,
+) -> bool
+    requires { ⌜ (t ≤ 128) × (m ≤ 64) × (n ≤ 1024) ⌝ }
+    ensures { λ r. ⌜ Returns (now (events .entry)) t (now (ofs .entry)) m (now (logs .entry)) n r ⌝ }
+{
+    let mut lane = [0u8; 1152];
+    let mut request = [0u8; 1152];
+    let mut number = [0u16; 1152];
+    put_items(
+        events,
+        t,
+        ofs,
+        m,
+        logs,
+        n,
+        &mut lane,
+        &mut request,
+        &mut number,
+    );
+    let mut out = [0u16; 1152];
+    let merged = ordering::merge(&lane[..n + t], &request, &number, &mut out);
+    merged.left != 0
+}

@@ -1,0 +1,96 @@
+// The replay of one request against the log lines that claim its operations.
+use crate::claims::Answered;
+use crate::claims::answer_of;
+use machine::Act;
+use machine::LIMIT;
+use machine::carry_out;
+use machine::first_locals;
+use machine::resume;
+use text::Of;
+use text::Program;
+ghost use mathlib.Core.Path.{_≡_};
+ghost use mathlib.Core.Bool.{cond};
+ghost use Prim.Native.Nat.{_*_, _<_};
+ghost use lib.Dec.{eqb};
+ghost use lib.ListN.{length};
+ghost use Rattle.replay.specs.declared.replays.End.the-variants.{Differs, Ended};
+ghost use Rattle.replay.specs.Promises.{Prepared, Replays};
+
+// A request as it arrives.
+pub struct Arrival {
+    pub prog: u64,
+    pub a: u64,
+    pub b: u64,
+}
+
+// How a replay comes out: not as the report has it, or with a status, a value and so many instructions carried out.
+pub enum End {
+    Differs,
+    Ended(u64, u64, usize),
+}
+
+// A request stops behind k operations, of which the report counts `count`.
+fn stopped(k: u64, count: u64, status: u64, value: u64, done: usize) -> End
+    ensures { λ r. ⌜ r ≡ cond (eqb k count) (Ended status value done) Differs ⌝ }
+{
+    if k == count {
+        End::Ended(status, value, done)
+    } else {
+        End::Differs
+    }
+}
+
+// The request in slot `slot`. The positions it carries out go to its row of paths.
+pub fn replay(
+    p: Program,
+    start: Arrival,
+    x: Of,
+    slot: usize,
+    logs: &[u64; 6144],
+    n: usize,
+    heads: &[u16; 1024],
+    afters: &[u16; 1024],
+    answers: &[u64; 1024],
+    paths: &mut [u8; 16384],
+) -> End
+    requires { ⌜ (slot < 64) × (length (now paths) ≡ 16384) × Prepared (now logs) n (now heads) (now afters) (now answers) ⌝ }
+    ensures { λ r. ⌜ Replays (now (logs .entry)) n (x .rid) (x .count) (start .a) (start .b) (slot * 256) (p .code) (now (paths .entry)) (now (paths .exit)) r ⌝ }
+{
+    let mut l = first_locals(start.a, start.b);
+    let rid = x.rid;
+    let count = x.count;
+    let base = slot * 256;
+    let mut at: u64 = 0;
+    let mut done: usize = 0;
+    let mut k: u64 = 0;
+    while done < LIMIT {
+        let here = at % 64;
+        let i = p.code[here as usize];
+        paths[base + done] = here as u8;
+        done += 1;
+        match carry_out(&mut l, i, here + 1) {
+            Act::Goes(to) => {
+                at = to;
+            }
+            Act::Asks(o, into) => {
+                if count <= k {
+                    return End::Differs;
+                }
+                match answer_of(logs, n, heads, afters, answers, rid, k + 1, o) {
+                    Answered::Wrong => {
+                        return End::Differs;
+                    }
+                    Answered::Right(v) => {
+                        resume(&mut l, into, v);
+                        k += 1;
+                        at = here + 1;
+                    }
+                }
+            }
+            Act::Replies(v) => {
+                return stopped(k, count, 0, v, done);
+            }
+        }
+    }
+    stopped(k, count, 1, 0, done)
+}

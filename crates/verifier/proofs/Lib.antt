@@ -1,0 +1,13 @@
+-- Laws that the functions' proofs cite
+pub mod Scans
+pub mod TraceScans
+pub mod ReportScans
+pub mod PrintedLines
+pub mod ReportRanges
+pub mod Tables
+pub mod SameReplays
+pub mod Verdicts
+-- Demand 3 for texts
+pub mod Acceptance
+-- Computed examples
+mod Stars

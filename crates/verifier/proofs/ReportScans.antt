@@ -1,0 +1,215 @@
+-- Rows 6, 7 and 8 in the terms of their scans.
+use Prim.Native.Nat.{ℕ, zero, suc, _+_, _-_, _≤_, _<_}
+use mathlib.Core.Bool.{Bool, true, false, not, _||_, _&&_}
+use mathlib.Core.List.{List, [], _∷_}
+use mathlib.Core.Path.{_≡_, refl, sym, ap, _∙_}
+use native.Mathlib.Numerals.{add-one}
+use native.Mathlib.Omega.{arith}
+use lib.Dec.{eqb, ltb}
+use lib.ListN.{length, getD, set}
+use lib.Seq.{getD-set-same, getD-set-other}
+use Rattle.text.specs.Held.{ofAt, entryAt}
+use Rattle.text.specs.Rows.{firsts}
+use Rattle.text.specs.declared.report.Entry.{Entry}
+use Rattle.text.specs.declared.report.Of.{Of}
+use Rattle.text.specs.declared.trace.Event.the-variants.{Request, Response}
+use Rattle.text.specs.declared.trace.Event.{Event}
+use Rattle.text.proofs.RowLaws.{firsts-length}
+use Rattle.ordering.proofs.Basics.{clash, byBool, byEq, eqb-yes, eqb-no, yes-eqb, and-true}
+use Rattle.model.specs.Audit.{row6From, bad7, row7, allClaimed, bad8}
+use Rattle.model.specs.Batch.{named, countOf, claims, claimed}
+use Rattle.model.specs.Checks.{firstBad}
+use Rattle.machine.specs.declared.rules.Ruling.the-variants.{Kept, Broken}
+use Rattle.verifier.specs.Faults.{brokenLine}
+use Rattle.verifier.specs.Steps.{any, beyond, packed, reported}
+use Rattle.verifier.proofs.Scans.{or-true, above, from, firsts-from, from-next, from-end, Passed, pass-hit-in, pass-end-in, Scanned, scan-on, scan-bad, scan-end}
+
+-- ── row 6: the first i of t events and the first j of m `of` lines go together ──
+pub record Matching (e : ℕ → Event) (f : ℕ → Of) (t m i j : ℕ) : Type 0 where
+  pub within : i ≤ t
+  pub few : j ≤ m
+  pub same : row6From (j + 1) (from e i (t - i)) (from f j (m - j)) ≡ row6From 1 (firsts e t) (firsts f m)
+
+module _ {e : ℕ → Event} {f : ℕ → Of} {t m : ℕ} where
+  pub match-start : Matching e f t m 0 0
+  match-start =
+      let z : t - 0 ≡ t = omega arith in
+      let w : m - 0 ≡ m = omega arith in
+      let l : 0 + 1 ≡ 1 = omega arith in
+      record { within = omega arith; few = omega arith; same = rw (z, w, l, firsts-from e t, firsts-from f m) }
+
+  module _ {i j : ℕ} (s : Matching e f t m i j) where
+    abbrev Fault : Type 0
+    Fault = brokenLine (Broken (j + 1)) ≡ row6From 1 (firsts e t) (firsts f m)
+
+    module _ (h : i < t) (x : Event) (l : x ≡ e i) where
+      pub match-response : (r a v : ℕ) → x ≡ Response r a v → Matching e f t m (i + 1) j
+      match-response r a v k = record { within = omega arith; few = s .few; same = rw (from-next e h, sym l ∙ k) at (s .same) }
+
+      module _ (r p a b : ℕ) (k : x ≡ Request r p a b) where
+        pub match-few : m ≤ j → Fault
+        match-few g = rw (from-next e h, sym l ∙ k, from-end f g) at (s .same)
+
+        module _ (g : j < m) (y : Of) (q : y ≡ f j) where
+          pub match-other : (y .rid ≡ r → ⊥) → Fault
+          match-other d =
+              let n : eqb (f j .rid) r ≡ false = rw (← q) (eqb-no {a = y .rid} {b = r} d) in
+              rw (from-next e h, sym l ∙ k, from-next f g, n) at (s .same)
+
+          pub match-on : y .rid ≡ r → Matching e f t m (i + 1) (j + 1)
+          match-on d =
+              let n : eqb (f j .rid) r ≡ true = rw (← q) (eqb-yes d) in
+              record {
+                within = omega arith;
+                few = omega arith;
+                same = rw (add-one (j + 1)) (rw (from-next e h, sym l ∙ k, from-next f g, n) at (s .same));
+              }
+
+    module _ (h : t ≤ i) where
+      pub match-over : j < m → Fault
+      match-over g = rw (from-end e h, from-next f g) at (s .same)
+
+      pub match-end : m ≤ j → brokenLine Kept ≡ row6From 1 (firsts e t) (firsts f m)
+      match-end g = rw (from-end e h, from-end f g) at (s .same)
+
+-- ── row 7: the `of` line of a rid, looked for from line j of m on ──
+pub record Seeking (f : ℕ → Of) (m r k j : ℕ) : Type 0 where
+  pub within : j ≤ m
+  pub same : beyond (from f j (m - j)) r k ≡ beyond (firsts f m) r k
+
+module _ {f : ℕ → Of} {m r k : ℕ} where
+  pub seek-start : Seeking f m r k 0
+  seek-start = let z : m - 0 ≡ m = omega arith in record { within = omega arith; same = rw (z, firsts-from f m) }
+
+  module _ {j : ℕ} (s : Seeking f m r k j) where
+    module _ (h : j < m) (y : Of) (q : y ≡ f j) where
+      pub seek-on : (y .rid ≡ r → ⊥) → Seeking f m r k (j + 1)
+      seek-on d =
+          let n : eqb (f j .rid) r ≡ false = rw (← q) (eqb-no {a = y .rid} {b = r} d) in
+          record { within = omega arith; same = rw (from-next f h, n) at (s .same) }
+
+      module _ (d : y .rid ≡ r) where
+        hit : (eqb k 0 || ltb (y .count) k) ≡ beyond (firsts f m) r k
+        hit =
+            let n : eqb (f j .rid) r ≡ true = rw (← q) (eqb-yes d) in
+            rw q (rw (from-next f h, n) at (s .same))
+
+        pub seek-zero : k ≡ 0 → true ≡ beyond (firsts f m) r k
+        seek-zero z = ap (λ b. b || ltb (y .count) k) (sym (eqb-yes z)) ∙ hit
+
+        pub seek-count : (k ≡ 0 → ⊥) → ltb (y .count) k ≡ beyond (firsts f m) r k
+        seek-count z = ap (λ b. b || ltb (y .count) k) (sym (eqb-no z)) ∙ hit
+
+    pub seek-end : m ≤ j → true ≡ beyond (firsts f m) r k
+    seek-end h = rw (from-end f h) at (s .same)
+
+-- ── claims ──
+claimed-any : (ls : List Entry) (r k : ℕ) → claimed ls r k ≡ any (claims r k) ls
+claimed-any [] r k = refl
+claimed-any (l ∷ ls) r k = ap (λ b. claims r k l || b) (claimed-any ls r k)
+
+-- the search for a claim
+module _ (r k : ℕ) {f : ℕ → Entry} {n j : ℕ} (s : Passed (claims r k) f n j) where
+  pub claim-found : j < n → claims r k (f j) ≡ true → true ≡ claimed (firsts f n) r k
+  claim-found h e = pass-hit-in s (f j) refl h e ∙ sym (claimed-any (firsts f n) r k)
+
+  pub claim-none : n ≤ j → false ≡ claimed (firsts f n) r k
+  claim-none h = pass-end-in s h ∙ sym (claimed-any (firsts f n) r k)
+
+-- m is line l, whose rid is looked at first
+pub claims-same : (r k : ℕ) (l m : Entry) → l ≡ m → l .rid ≡ r → eqb (l .num) k ≡ claims r k m
+claims-same r k l m e d = rw (← e, eqb-yes d)
+
+pub claims-other : (r k : ℕ) (l m : Entry) → l ≡ m → (l .rid ≡ r → ⊥) → false ≡ claims r k m
+claims-other r k l m e d = rw (← e, eqb-no {a = l .rid} {b = r} d)
+
+-- claims that are packed differently differ
+pub claims-not : (r k : ℕ) (l : Entry) (p q : ℕ) → p ≡ packed (l .rid) (l .num) → q ≡ packed r k → (p ≡ q → ⊥) → false ≡ claims r k l
+claims-not r k l p q a b d =
+    byBool (claims r k l)
+    (λ y.
+    let z = and-true (eqb (l .rid) r) (eqb (l .num) k) y in
+    let u : l .rid ≡ r = yes-eqb (z .0) in
+    let v : l .num ≡ k = yes-eqb (z .1) in
+    absurd (d (a ∙ (λ i. packed (u i) (v i)) ∙ sym b)))
+    (λ n. sym n)
+
+-- one claim more in the column
+pub packed-more : (logs column : List ℕ) (n i p : ℕ) (l : Entry) → l ≡ entryAt logs i → p ≡ packed (l .rid) (l .num) → i < length column →
+    ((j : ℕ) → j < i → getD column j 0 ≡ packed (entryAt logs j .rid) (entryAt logs j .num)) →
+    (j : ℕ) → j < i + 1 → getD (set column i p) j 0 ≡ packed (entryAt logs j .rid) (entryAt logs j .num)
+packed-more logs column n i p l e q h g j k =
+    byEq j i
+    (λ z d. rw z (getD-set-same column i p 0 h ∙ q ∙ (λ w. packed (e w .rid) (e w .num))))
+    (λ z d. getD-set-other column i j p 0 z ∙ g j (omega arith))
+
+parted : (a b c d : Bool) → (not a || (b || (c || d))) ≡ ((not a || (b || c)) || d)
+parted true true c d = refl
+parted true false true d = refl
+parted true false false d = refl
+parted false b c d = refl
+
+-- ── row 7: log line i of n, which is l, with the lines above it ──
+module _ (ofs : List ℕ) (m : ℕ) (logs : List ℕ) (n : ℕ) where
+  abbrev pub Scanned7 : ℕ → Type 0
+  Scanned7 i = Scanned (bad7 (firsts (ofAt ofs) m)) (entryAt logs) (suc m) n i
+
+  -- the first log line is the one behind the m `of` lines
+  behind : firstBad (bad7 (firsts (ofAt ofs) m)) (suc m) [] (firsts (entryAt logs) n) ≡ row7 (reported ofs m logs n)
+  behind = ap (λ k. firstBad (bad7 (firsts (ofAt ofs) m)) (suc k) [] (firsts (entryAt logs) n)) (sym (firsts-length (ofAt ofs) m))
+
+  pub claims-end : {i : ℕ} → Scanned7 i → n ≤ i → brokenLine Kept ≡ row7 (reported ofs m logs n)
+  claims-end s h = scan-end s h ∙ behind
+
+  module _ {i : ℕ} (s : Scanned7 i) (h : i < n) (l : Entry) (e : l ≡ entryAt logs i) where
+    abbrev upward : List Entry
+    upward = above (entryAt logs) i
+
+    abbrev out : Bool
+    out = beyond (firsts (ofAt ofs) m) (l .rid) (l .num)
+
+    bad-is : bad7 (firsts (ofAt ofs) m) upward (entryAt logs i) ≡ (out || any (claims (l .rid) (l .num)) upward)
+    bad-is =
+        let x = firsts (ofAt ofs) m in
+        rw (← e)
+        (parted (named x (l .rid)) (eqb (l .num) 0) (ltb (countOf x (l .rid)) (l .num)) (claimed upward (l .rid) (l .num))
+        ∙ ap (λ b. out || b) (claimed-any upward (l .rid) (l .num)))
+
+    fault : bad7 (firsts (ofAt ofs) m) upward (entryAt logs i) ≡ true → brokenLine (Broken (m + 1 + i)) ≡ row7 (reported ofs m logs n)
+    fault d = scan-bad s h (m + 1 + i) (omega arith) d ∙ behind
+
+    pub claims-beyond : out ≡ true → brokenLine (Broken (m + 1 + i)) ≡ row7 (reported ofs m logs n)
+    claims-beyond d = fault (bad-is ∙ rw d)
+
+    pub claims-twice : any (claims (l .rid) (l .num)) upward ≡ true → brokenLine (Broken (m + 1 + i)) ≡ row7 (reported ofs m logs n)
+    claims-twice d = fault (bad-is ∙ rw d (or-true out))
+
+    pub claims-anew : out ≡ false → any (claims (l .rid) (l .num)) upward ≡ false → Scanned7 (i + 1)
+    claims-anew d g = scan-on s h (bad-is ∙ rw (d, g))
+
+-- ── row 8: the operations of a request, n in all, looked for from the last downward; k are left ──
+pub record Counting (log : List Entry) (r n k : ℕ) : Type 0 where
+  pub same : allClaimed log r k ≡ allClaimed log r n
+
+pub count-start : {log : List Entry} {r n : ℕ} → Counting log r n n
+count-start = record { same = refl }
+
+module _ {log : List Entry} {r n : ℕ} where
+  pub count-on : {k : ℕ} → Counting log r n k → 0 < k → claimed log r k ≡ true → Counting log r n (k - 1)
+  count-on {k = zero} s h e = absurd (omega arith)
+  count-on {k = suc k} s h e = let z : suc k - 1 ≡ k = omega arith in record { same = rw z (rw e at (s .same)) }
+
+  pub count-not : {k : ℕ} → Counting log r n k → 0 < k → claimed log r k ≡ false → allClaimed log r n ≡ false
+  count-not {k = zero} s h e = absurd (omega arith)
+  count-not {k = suc k} s h e = sym (rw e at (s .same))
+
+  pub count-end : {k : ℕ} → Counting log r n k → k ≤ 0 → allClaimed log r n ≡ true
+  count-end {k} s h = let z : k ≡ 0 = omega arith in sym (rw z at (s .same))
+
+-- `of` line i, which is x
+module _ (log : List Entry) {f : ℕ → Of} {m i : ℕ} (s : Scanned (bad8 log) f 1 m i) (h : i < m) (x : Of) (e : x ≡ f i) where
+  pub counts-more : allClaimed log (x .rid) (x .count) ≡ false → brokenLine (Broken (i + 1)) ≡ firstBad (bad8 log) 1 [] (firsts f m)
+  counts-more d = scan-bad s h (i + 1) (omega arith) (rw (← e, d))
+
+  pub counts-all : allClaimed log (x .rid) (x .count) ≡ true → Scanned (bad8 log) f 1 m (i + 1)
+  counts-all d = scan-on s h (rw (← e, d))

@@ -1,0 +1,111 @@
+-- The scope's worked batches, and the small examples of its table, as texts with what the audit finds: computed from the meaning.
+use Prim.Native.Nat.{ℕ}
+use Prim.Native.String.{String}
+use mathlib.Core.List.{List, [], _∷_, _++_, map}
+use mathlib.Core.Path.{_≡_, refl}
+use Rattle.lines.specs.Bytes.{bytes}
+use Rattle.lines.specs.Line.{prefix, fieldOf, fieldsOf, lineOf}
+use Rattle.lines.specs.Number.{pushOf, digitsOf, numberOf}
+use Rattle.lines.specs.Parts.{onto, parts}
+use Rattle.text.specs.Programs.{addProgram, addDo, readPrograms}
+use Rattle.text.specs.Report.{addOf, addLog, readReport}
+use Rattle.text.specs.Text.{within, count, addLine, readLines, readText}
+use Rattle.text.specs.Trace.{addRequest, addResponse, readTrace}
+use Rattle.ordering.specs.Maps.{upd}
+use Rattle.ordering.specs.Order.{bump}
+use Rattle.machine.specs.Instructions.{effectAs}
+use Rattle.machine.specs.Processes.{go}
+use Rattle.machine.specs.Rules.{instructions, programs}
+use Rattle.verifier.specs.Faults.{auditOf}
+use Rattle.verifier.specs.declared.Audited.{Audited}
+
+-- three texts as their lines, and what the audit finds
+record Case : Type 0 where
+  programLines : List String
+  traceLines : List String
+  reportLines : List String
+  finds : Audited
+
+abbrev case : (programs trace report : List String) → Audited → Case
+case programs trace report a = record { programLines = programs; traceLines = trace; reportLines = report; finds = a }
+
+abbrev text : List String → List ℕ
+text [] = []
+text (l ∷ ls) = bytes l ++ 10 ∷ text ls
+
+abbrev audits : Case → Audited
+audits c = auditOf (text (c .programLines)) (text (c .traceLines)) (text (c .reportLines))
+
+abbrev accepted : (requests operations : ℕ) → Audited
+accepted requests operations = record { verdict = 0; line = 0; requests = requests; operations = operations }
+
+abbrev refused : (verdict line : ℕ) → Audited
+refused verdict line = record { verdict = verdict; line = line; requests = 0; operations = 0 }
+
+-- ── the worked batches ──
+abbrev programsABC : List String
+programsABC =
+    "program=0" ∷ "do=1,2,1,0" ∷ "do=7,0,2,0" ∷ "do=6,0,1,0" ∷ "do=0,0,0,0"
+    ∷ "program=1" ∷ "do=1,2,1,0" ∷ "do=7,1,2,0" ∷ "do=6,0,0,0" ∷ "do=0,0,0,0" ∷ []
+
+abbrev traceC : (response1 response2 : String) → List String
+traceC response1 response2 = "request=1,0,0,0" ∷ "request=2,1,0,0" ∷ response1 ∷ response2 ∷ []
+
+abbrev reportC : (of2 log1 : String) → List String
+reportC of2 log1 = "of=1,0,2" ∷ of2 ∷ log1 ∷ "log=0,2,2,6,0,0" ∷ "log=1,2,1,7,0,1" ∷ "log=1,1,2,6,0,0" ∷ []
+
+abbrev cases : List Case
+cases =
+    -- C
+    case programsABC (traceC "response=1,0,1" "response=2,0,1") (reportC "of=2,1,2" "log=0,1,1,7,0,1") (accepted 2 4)
+    -- B
+    ∷ case programsABC (traceC "response=1,0,0" "response=2,0,0")
+    ("of=1,0,2" ∷ "of=2,1,2" ∷ "log=0,2,2,6,0,0" ∷ "log=0,1,1,7,0,1" ∷ "log=1,1,2,6,0,0" ∷ "log=1,2,1,7,0,1" ∷ []) (refused 9 0)
+    -- A
+    ∷ case programsABC ("request=1,0,0,0" ∷ "response=1,0,1" ∷ "request=2,1,0,0" ∷ "response=2,0,0" ∷ [])
+    ("of=1,0,2" ∷ "of=2,1,2" ∷ "log=0,2,2,6,0,0" ∷ "log=0,1,1,7,0,1" ∷ "log=1,2,1,7,0,1" ∷ "log=1,1,2,6,0,0" ∷ []) (refused 9 0)
+    -- C's single changes: the first log value, the second response, the second group
+    ∷ case programsABC (traceC "response=1,0,1" "response=2,0,1") (reportC "of=2,1,2" "log=0,1,1,7,0,2") (refused 10 1)
+    ∷ case programsABC (traceC "response=1,0,1" "response=2,0,5") (reportC "of=2,1,2" "log=0,1,1,7,0,1") (refused 11 2)
+    ∷ case programsABC (traceC "response=1,0,1" "response=2,0,1") (reportC "of=2,0,2" "log=0,1,1,7,0,1") (refused 12 2)
+    -- all three texts empty
+    ∷ case [] [] [] (accepted 0 0)
+    -- the program that never replies is cut off
+    ∷ case ("program=0" ∷ "do=1,2,1,0" ∷ "do=5,2,0,0" ∷ "do=0,0,0,0" ∷ []) ("request=1,0,0,0" ∷ "response=1,1,0" ∷ []) ("of=1,0,0" ∷ [])
+    (accepted 1 0)
+    ∷ []
+
+stars : map audits cases ≡ map (λ c. c .finds) cases
+unfolding auditOf readPrograms readTrace readReport readText readLines addLine lineOf fieldsOf fieldOf prefix numberOf digitsOf pushOf
+    parts onto within count addProgram addDo addRequest addResponse addOf addLog programs instructions go effectAs upd bump
+stars = refl
+
+-- ── the small examples of rows 1 to 8 ──
+abbrev replies : List String
+replies = "program=0" ∷ "do=0,0,0,0" ∷ []
+
+abbrev answered : List String
+answered = "request=1,0,0,0" ∷ "response=1,0,0" ∷ []
+
+abbrev small : List Case
+small =
+    case ("do=1,2" ∷ []) [] [] (refused 1 1)
+    ∷ case ("program=0" ∷ "do=0,8,0,0" ∷ []) [] [] (refused 2 2)
+    ∷ case [] ("request=01,0,0,0" ∷ []) [] (refused 3 1)
+    ∷ case [] ("response=1,0,0" ∷ []) [] (refused 4 1)
+    ∷ case [] [] ("of=1,0" ∷ []) (refused 5 1)
+    ∷ case replies answered [] (refused 6 1)
+    ∷ case replies answered ("of=1,0,0" ∷ "log=0,1,1,7,0,1" ∷ []) (refused 7 2)
+    ∷ case replies answered ("of=1,0,1" ∷ []) (refused 8 1)
+    -- a request never answered; the earliest, behind the faults of lines
+    ∷ case replies ("request=1,0,0,0" ∷ "request=2,0,0,0" ∷ "response=2,0,0" ∷ []) [] (refused 4 1)
+    ∷ case replies ("request=1,0,0,0" ∷ "request=2,1,0,0" ∷ []) [] (refused 4 2)
+    -- row 5 stands between rows 4 and 6
+    ∷ case replies ("request=1,0,0,0" ∷ []) ("of=1,0" ∷ []) (refused 4 1)
+    ∷ case replies answered ("of=2,0,0" ∷ "log=0" ∷ []) (refused 5 2)
+    ∷ []
+
+rows-1-to-8 : map audits small ≡ map (λ c. c .finds) small
+unfolding auditOf readPrograms readTrace readReport readText readLines addLine lineOf fieldsOf fieldOf prefix numberOf digitsOf pushOf
+    parts onto within count addProgram addDo addRequest addResponse addOf addLog programs instructions go effectAs upd bump
+rows-1-to-8 = refl

@@ -1,0 +1,288 @@
+-- The audit from one row to the next: a row that holds gives the verdict, and a row that does not leaves it to the rows behind.
+use Prim.Native.Nat.{ℕ, suc, _≤_, _<_, min}
+use mathlib.Core.Bool.{true, false, cond}
+use mathlib.Core.List.{List, [], _∷_}
+use mathlib.Core.Logic.{_↔_}
+use mathlib.Core.Option.{Option, none, some}
+use mathlib.Core.Path.{_≡_, refl, sym, ap, _∙_, subst}
+use native.Mathlib.Omega.{arith}
+use borrow.Author.Tests.{ltb-true}
+use lib.Dec.{eqb, ltb}
+use lib.ListN.{length, getD}
+use Rattle.text.specs.Held.{eventAt, ofAt, entryAt, readIn, reportIn, programAt, programsIn, TraceIs, ReportIs, ProgramsIs, ofsIn, logsIn}
+use Rattle.text.specs.Held as held
+use Rattle.text.specs.Programs.{readPrograms}
+use Rattle.text.specs.Report.{Report, readReport}
+use Rattle.text.specs.Rows.{firsts}
+use Rattle.text.specs.Text.{Read, readable, unreadable, count}
+use Rattle.text.specs.Trace.{isRequest, readTrace}
+use Rattle.text.specs.declared.kinds.Lines.the-variants.{Readable, Unreadable}
+use Rattle.text.specs.declared.kinds.Lines.{Lines}
+use Rattle.text.specs.declared.programs.Program.{Program}
+use Rattle.text.specs.declared.programs.Programs.{Programs}
+use Rattle.text.specs.declared.report.Of.{Of}
+use Rattle.text.specs.declared.report.ReportLines.the-variants.{Counts, BadLine}
+use Rattle.text.specs.declared.report.ReportLines.{ReportLines}
+use Rattle.text.specs.declared.trace.Event.the-variants.{Request, Response}
+use Rattle.text.specs.declared.trace.Event.{Event}
+use Rattle.text.proofs.RowLaws.{firsts-length}
+use Rattle.model.specs.Audit.{row4, row4Open, row6, row7, row8, row9, replayChecks, reportChecks}
+use Rattle.model.specs.Batch.{Batch}
+use Rattle.model.specs.Checks.{Verdict, Check, check, verdict, firstFault}
+use Rattle.model.proofs.Trace.{Matching, row4-order, row6-matching}
+use Rattle.machine.specs.Instance.{machine}
+use Rattle.machine.specs.Objects.{atStart}
+use Rattle.machine.specs.Processes.{limit}
+use Rattle.machine.specs.Rules.{rulingOf}
+use Rattle.machine.specs.declared.rules.Ruling.the-variants.{Kept, Broken}
+use Rattle.machine.specs.declared.rules.Ruling.{Ruling}
+use Rattle.replay.specs.Judges.{batchIn, Ready, checks, Judges}
+use Rattle.replay.specs.declared.Fault.{Fault}
+use Rattle.verifier.specs.Accepts.{Accepts}
+use Rattle.verifier.specs.Faults.{badLine, contents, brokenLine, row2, known, batchOf, checksOf, audited, auditedOf, auditOf}
+use Rattle.verifier.specs.Steps.{
+  refusal,
+  tableIn,
+  eventsIn,
+  linesIn,
+  TraceHeld,
+  ReportHeld,
+  auditedReport,
+  auditedTrace,
+}
+use Rattle.verifier.specs.declared.Audited.{Audited}
+use Rattle.verifier.proofs.Acceptance.{audit-accepts}
+use Rattle.verifier.proofs.ReportRanges.{report-in-range}
+use Rattle.verifier.proofs.SameReplays.{replays-same}
+use Rattle.verifier.proofs.Tables.{rules-read, same-code}
+
+-- ── one row ──
+-- a ruling r tells the line o of a row, and is k's
+pub broken : (r : Ruling) (o : Option ℕ) (line : ℕ) → brokenLine r ≡ o → r ≡ Broken line → o ≡ some line
+broken r o line e d = sym e ∙ ap brokenLine d
+
+pub kept : (r : Ruling) (o : Option ℕ) → brokenLine r ≡ o → r ≡ Kept → o ≡ none
+kept r o e d = sym e ∙ ap brokenLine d
+
+-- three rows, and those behind them
+module _ (i j k : ℕ) (a b c : Option ℕ) (cs : List Check) where
+  abbrev rows : List Check
+  rows = check i a ∷ check j b ∷ check k c ∷ cs
+
+  first-holds : (n : ℕ) → a ≡ some n → verdict i n ≡ firstFault rows
+  first-holds n e = rw e
+
+  second-holds : a ≡ none → (n : ℕ) → b ≡ some n → verdict j n ≡ firstFault rows
+  second-holds d n e = rw (d, e)
+
+  third-holds : a ≡ none → b ≡ none → (n : ℕ) → c ≡ some n → verdict k n ≡ firstFault rows
+  third-holds d f n e = rw (d, f, e)
+
+  none-holds : a ≡ none → b ≡ none → c ≡ none → firstFault cs ≡ firstFault rows
+  none-holds d f e = rw (d, f, e)
+
+-- ── rows 6 to 12 ──
+-- one `of` line for each request
+matching-count : (es : List Event) (xs : List Of) → Matching es xs → length xs ≡ count isRequest es
+unfolding count
+matching-count [] [] h = refl
+matching-count [] (x ∷ xs) h = absurd h
+matching-count (Request r prog a b ∷ es) [] h = absurd h
+matching-count (Request r prog a b ∷ es) (x ∷ xs) h = ap suc (matching-count es xs (h .1))
+matching-count (Response r s v ∷ es) xs h = matching-count es xs h
+
+module _ (table : List Program) (events : List Event) (lines : Report) where
+  abbrev b : Batch
+  b = batchOf events lines
+
+  abbrev behind8 : List Check
+  behind8 = check 9 (row9 b) ∷ replayChecks (machine limit table) atStart b 1 (b .ofs)
+
+  -- a verdict with the counts of the batch
+  abbrev counted : Verdict → Audited
+  counted v = audited v (count isRequest events) (length (lines .log))
+
+  pub at-6 : (line : ℕ) → row6 b ≡ some line → refusal 6 line ≡ auditedReport table events lines
+  at-6 line e = ap counted (first-holds 6 7 8 (row6 b) (row7 b) (row8 b) behind8 line e)
+
+  pub at-7 : row6 b ≡ none → (line : ℕ) → row7 b ≡ some line → refusal 7 line ≡ auditedReport table events lines
+  at-7 d line e = ap counted (second-holds 6 7 8 (row6 b) (row7 b) (row8 b) behind8 d line e)
+
+  pub at-8 : row6 b ≡ none → row7 b ≡ none → (line : ℕ) → row8 b ≡ some line → refusal 8 line ≡ auditedReport table events lines
+  at-8 d f line e = ap counted (third-holds 6 7 8 (row6 b) (row7 b) (row8 b) behind8 d f line e)
+
+  past-8 : row6 b ≡ none → row7 b ≡ none → row8 b ≡ none → firstFault behind8 ≡ firstFault (reportChecks (machine limit table) atStart b)
+  past-8 d f e = none-holds 6 7 8 (row6 b) (row7 b) (row8 b) behind8 d f e
+
+-- rows 9 to 12 of what stands in the arrays
+module _ (ps : Programs) (events : List ℕ) (t : ℕ) (ofs : List ℕ) (m : ℕ) (logs : List ℕ) (n : ℕ) (h : ReportHeld ps events t ofs m logs n) where
+  abbrev batch : Batch
+  batch = batchOf (eventsIn events t) (linesIn ofs m logs n)
+
+  abbrev table : List Program
+  table = tableIn ps
+
+  whole : batchIn events t ofs m logs n ≡ batch
+  whole =
+      let p : min t 128 ≡ t = omega (arith, h .held .events) in
+      let q : min m 64 ≡ m = omega (arith, h .few) in
+      let r : min n 1024 ≡ n = omega (arith, h .fewer) in
+      λ i. record { trace = firsts (eventAt events) (p i); ofs = firsts (ofAt ofs) (q i); log = firsts (entryAt logs) (r i) }
+
+  below : (prog : ℕ) → known table prog ≡ true → prog < ps .n
+  below prog e = omega (arith, ltb-true prog (length table) e, firsts-length (programAt (ps .table)) (ps .n))
+
+  module _ (e6 : row6 batch ≡ none) (e7 : row7 batch ≡ none) (e8 : row8 batch ≡ none) where
+    ready : Ready (known table) batch
+    ready =
+        record {
+          none-to-8 = (h .lines4, h .answered4, e6, e7, e8);
+          programs = λ prog e. omega (arith, below prog e, h .held .programs);
+          objects = h .ranges .objects;
+          counts = h .ranges .counts;
+        }
+
+    pub judged : (f : Fault) (r : _) → r ≡ audited (verdict (f .row) (f .line)) m n → Judges ps events t ofs m logs n f →
+        r ≡ auditedReport table (eventsIn events t) (linesIn ofs m logs n)
+    judged f r g j =
+        let v = subst (λ b. Ready (known table) b → verdict (f .row) (f .line) ≡ firstFault (checks (ps .table) b)) whole (j (known table)) ready in
+        let s = replays-same limit (ps .table) table (known table)
+        (λ (prog : ℕ). λ (e : known table prog ≡ true). same-code (ps .table) (ps .n) prog (below prog e) (h .held .bounded prog (below prog e)))
+        atStart batch (row4-order (known table) (eventsIn events t) .0 (h .lines4) .1) 1 (batch .ofs) in
+        let c : m ≡ count isRequest (eventsIn events t) =
+        sym (firsts-length (ofAt ofs) m) ∙ matching-count (eventsIn events t) (firsts (ofAt ofs) m) (row6-matching batch .0 e6) in
+        let o : n ≡ length (firsts (entryAt logs) n) = sym (firsts-length (entryAt logs) n) in
+        let w = v ∙ ap (λ cs. firstFault (check 9 (row9 batch) ∷ cs)) s ∙ past-8 table (eventsIn events t) (linesIn ofs m logs n) e6 e7 e8 in
+        g ∙ (λ i. audited (w i) (c i) (o i))
+
+-- ── rows 4 and 5 ──
+module _ (table : List Program) (events : List Event) (report : Read Report) where
+  abbrev lines : Report
+  lines = contents (record { ofs = []; log = [] }) report
+
+  abbrev behind5 : List Check
+  behind5 = reportChecks (machine limit table) atStart (batchOf events lines)
+
+  pub at-4 : (line : ℕ) → row4 (known table) events ≡ some line → refusal 4 line ≡ auditedTrace table events report
+  at-4 line e =
+      ap (counted table events lines) (first-holds 4 4 5 (row4 (known table) events) (row4Open events) (badLine report) behind5 line e)
+
+  module _ (d : row4 (known table) events ≡ none) where
+    pub at-4-open : (line : ℕ) → row4Open events ≡ some line → refusal 4 line ≡ auditedTrace table events report
+    at-4-open line e =
+        ap (counted table events lines) (second-holds 4 4 5 (row4 (known table) events) (row4Open events) (badLine report) behind5 d line e)
+
+    module _ (f : row4Open events ≡ none) where
+      pub at-5 : (line : ℕ) → report ≡ unreadable line → refusal 5 line ≡ auditedTrace table events report
+      at-5 line e =
+          ap (counted table events lines)
+          (third-holds 4 4 5 (row4 (known table) events) (row4Open events) (badLine report) behind5 d f line (ap badLine e))
+
+      pub past-5 : (x : Report) → report ≡ readable x → auditedReport table events x ≡ auditedTrace table events report
+      past-5 x e =
+          ap (λ y. auditedReport table events (contents (record { ofs = []; log = [] }) y)) (sym e)
+          ∙ ap (counted table events lines)
+          (none-holds 4 4 5 (row4 (known table) events) (row4Open events) (badLine report) behind5 d f (ap badLine e))
+
+-- the program numbers that are known, by their count in the array
+pub known-in : (ps : Programs) (events : List ℕ) (t : ℕ) (o : Option ℕ) → row4 (λ prog. ltb prog (ps .n)) (eventsIn events t) ≡ o →
+    row4 (known (tableIn ps)) (eventsIn events t) ≡ o
+known-in ps events t o e = ap (λ k. row4 (λ prog. ltb prog k) (eventsIn events t)) (firsts-length (programAt (ps .table)) (ps .n)) ∙ e
+
+-- what the reader of the report says
+module _ (s : List ℕ) (r : ReportLines) (ofs logs : List ℕ) (h : ReportIs s r ofs logs) where
+  pub report-bad : (line : ℕ) → r ≡ BadLine line → readReport s ≡ unreadable line
+  unfolding reportIn
+  report-bad line e = sym (h .read) ∙ ap (reportIn ofs logs) e
+
+  module _ (m n : ℕ) (e : r ≡ Counts m n) where
+    pub report-read : readReport s ≡ readable (linesIn ofs m logs n)
+    unfolding reportIn
+    report-read = sym (h .read) ∙ ap (reportIn ofs logs) e
+
+    pub report-held : (ps : Programs) (events : List ℕ) (t : ℕ) → TraceHeld ps t → row4 (known (tableIn ps)) (eventsIn events t) ≡ none →
+        row4Open (eventsIn events t) ≡ none → ReportHeld ps events t ofs m logs n
+    report-held ps events t g d f =
+        record {
+          held = g;
+          lines4 = d;
+          answered4 = f;
+          few = subst (λ r. ofsIn r ≤ 64) e (h .few);
+          fewer = subst (λ r. logsIn r ≤ 1024) e (h .fewer);
+          ranges = report-in-range s (linesIn ofs m logs n) report-read;
+        }
+
+-- ── rows 1 to 3 ──
+module _ (table : List Program) (trace : Read (List Event)) (report : Read Report) where
+  abbrev events : List Event
+  events = contents [] trace
+
+  abbrev behind3 : List Check
+  behind3 =
+      check 4 (row4 (known table) events)
+      ∷ check 4 (row4Open events)
+      ∷ check 5 (badLine report)
+      ∷ behind5 table events report
+
+  rules-broken : (line : ℕ) → row2 table ≡ some line → refusal 2 line ≡ auditedOf (readable table) trace report
+  rules-broken line e =
+      ap (counted table events (lines table events report)) (second-holds 1 2 3 none (row2 table) (badLine trace) behind3 refl line e)
+
+  module _ (d : row2 table ≡ none) where
+    trace-bad : (line : ℕ) → trace ≡ unreadable line → refusal 3 line ≡ auditedOf (readable table) trace report
+    trace-bad line e =
+        ap (counted table events (lines table events report))
+        (third-holds 1 2 3 none (row2 table) (badLine trace) behind3 refl d line (ap badLine e))
+
+    trace-read : (x : List Event) → trace ≡ readable x → auditedTrace table x report ≡ auditedOf (readable table) trace report
+    trace-read x e =
+        ap (λ y. auditedTrace table (contents [] y) report) (sym e)
+        ∙ ap (counted table events (lines table events report))
+        (none-holds 1 2 3 none (row2 table) (badLine trace) behind3 refl d (ap badLine e))
+
+module _ (s trace report : List ℕ) (ps : Programs) (h : ProgramsIs s ps) where
+  pub at-1 : ps .ok ≡ false → refusal 1 (ps .line) ≡ auditOf s trace report
+  unfolding auditOf programsIn
+  at-1 e =
+      let u : unreadable (ps .line) ≡ readPrograms s = rw e at (h .read) in
+      ap (λ p. auditedOf p (readTrace trace) (readReport report)) u
+
+  module _ (ok : ps .ok ≡ true) where
+    table-read : readable (tableIn ps) ≡ readPrograms s
+    unfolding programsIn
+    table-read = rw ok at (h .read)
+
+    module _ (r : Ruling) (e : r ≡ rulingOf (min (ps .n) 16) (ps .table)) where
+      ruled : brokenLine r ≡ row2 (tableIn ps)
+      ruled = ap brokenLine (e ∙ rules-read (ps .table) (ps .n) (h .few))
+
+      whole-text : auditedOf (readable (tableIn ps)) (readTrace trace) (readReport report) ≡ auditOf s trace report
+      unfolding auditOf
+      whole-text = ap (λ p. auditedOf p (readTrace trace) (readReport report)) table-read
+
+      pub at-2 : (line : ℕ) → r ≡ Broken line → refusal 2 line ≡ auditOf s trace report
+      at-2 line d =
+          rules-broken (tableIn ps) (readTrace trace) (readReport report) line (broken r (row2 (tableIn ps)) line ruled d) ∙ whole-text
+
+      module _ (k : r ≡ Kept) (l : Lines) (events : List ℕ) (g : TraceIs trace l events) where
+        pub at-3 : (line : ℕ) → l ≡ Unreadable line → refusal 3 line ≡ auditOf s trace report
+        unfolding readIn
+        at-3 line d =
+            trace-bad (tableIn ps) (readTrace trace) (readReport report) (kept r (row2 (tableIn ps)) ruled k) line
+            (sym (g .read) ∙ ap (readIn (eventAt events)) d)
+            ∙ whole-text
+
+        pub past-3 : (t : ℕ) → l ≡ Readable t → auditedTrace (tableIn ps) (eventsIn events t) (readReport report) ≡ auditOf s trace report
+        unfolding readIn
+        past-3 t d =
+            trace-read (tableIn ps) (readTrace trace) (readReport report) (kept r (row2 (tableIn ps)) ruled k) (eventsIn events t)
+            (sym (g .read) ∙ ap (readIn (eventAt events)) d)
+            ∙ whole-text
+
+    pub trace-held : (l : Lines) (events : List ℕ) → TraceIs trace l events → (t : ℕ) → l ≡ Readable t → TraceHeld ps t
+    trace-held l events g t d = record { programs = h .few; bounded = h .bounded; events = subst (λ l. held.linesIn l ≤ 128) d (g .few) }
+
+-- both promises of the audit
+pub promised : (s trace report : List ℕ) (r : Audited) → r ≡ auditOf s trace report →
+    (r ≡ auditOf s trace report) × ((r .verdict ≡ 0) ↔ Accepts s trace report)
+promised s trace report r e = (e, rw e (audit-accepts s trace report))

@@ -1,0 +1,43 @@
+-- `audit_report` meets its contract.
+use mathlib.Core.Path.{_∙_}
+use Rattle.verifier.specs.Steps.{tableIn, eventsIn, linesIn}
+use Rattle.verifier.proofs.Verdicts.{broken, kept, at-6, at-7, at-8, judged}
+use borrow.Author.Needs.{needs}
+use Rattle.verifier.proofs.audits.audit_report.Statement.{statement}
+use Rattle.verifier.proofs.audits.audit_report.Tie as tie
+
+returns : tie.Need-returns
+returns c = let a = c .before .before .before .before .before .args in c .refused .ensures ∙ at-6 (tableIn (a .ps)) (eventsIn (a .events .now) (a .t)) (linesIn (a .ofs .now) (a .m) (a .logs .now) (a .n)) _ (broken _ _ _ (c .before .before .before .before .row-6 .ensures) (c .before .before .line .given .1))
+
+returns-2 : tie.Need-returns-2
+returns-2 c = let a = c .before .before .before .before .before .before .before .before .before .before .before .args in c .refused2 .ensures ∙ at-7 (tableIn (a .ps)) (eventsIn (a .events .now) (a .t)) (linesIn (a .ofs .now) (a .m) (a .logs .now) (a .n)) (kept _ _ (c .before .before .before .before .before .before .before .before .before .before .row-6 .ensures) (c .before .before .before .before .before .before .before .before .enum-told .given .1)) _ (broken _ _ _ (c .before .before .before .before .row-7 .ensures) (c .before .before .line2 .given .1))
+
+returns-3 : tie.Need-returns-3
+returns-3 c = let a = c .before .before .before .before .before .before .before .before .before .before .before .before .before .before .before .args in c .refused3 .ensures ∙ at-8 (tableIn (a .ps)) (eventsIn (a .events .now) (a .t)) (linesIn (a .ofs .now) (a .m) (a .logs .now) (a .n)) (kept _ _ (c .before .before .before .before .before .before .before .before .before .before .before .before .before .before .row-6 .ensures) (c .before .before .before .before .before .before .before .before .before .before .before .before .enum-told .given .1)) (kept _ _ (c .before .before .before .before .before .before .before .before .row-7 .ensures) (c .before .before .before .before .before .before .enum-told2 .given .1)) _ (broken _ _ _ (c .before .before .before .before .row-8 .ensures) (c .before .before .line3 .given .1))
+
+returns-4 : tie.Need-returns-4
+returns-4 c = judged _ _ _ _ _ _ _ (c .before .before .before .before .before .before .before .before .before .before .before .before .before .before .before .pre) (kept _ _ (c .before .before .before .before .before .before .before .before .before .before .before .before .before .before .row-6 .ensures) (c .before .before .before .before .before .before .before .before .before .before .before .before .enum-told .given .1)) (kept _ _ (c .before .before .before .before .before .before .before .before .row-7 .ensures) (c .before .before .before .before .before .before .enum-told2 .given .1)) (kept _ _ (c .before .before .before .before .row-8 .ensures) (c .before .before .enum-told3 .given .1)) _ _ (c .result .ensures) (c .before .judge .ensures)
+
+pub audit-report-spec : {M : Type 1} → statement M
+audit-report-spec =
+    tie.close
+    (tie.spec
+    (λ c κs. search needs)
+    (λ c. search needs)
+    (λ c κs. search needs)
+    returns
+    (λ c. search needs)
+    (λ c κs. search needs)
+    (λ c κs. search needs)
+    (λ c. search needs)
+    (λ c κs. search needs)
+    returns-2
+    (λ c. search needs)
+    (λ c κs. search needs)
+    (λ c. search needs)
+    (λ c κs. search needs)
+    returns-3
+    (λ c. search needs)
+    (λ c κs. search needs)
+    (λ c κs. search needs)
+    returns-4)

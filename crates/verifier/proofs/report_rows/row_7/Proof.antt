@@ -1,0 +1,79 @@
+-- `row_7` meets its contract. Lines: none of those passed is bad; within one: no line passed claims its operation.
+use Prim.Native.Nat.{_-_}
+use mathlib.Core.Logic.{⊎-elim}
+use mathlib.Core.Path.{refl, sym, _∙_}
+use native.Mathlib.Omega.{arith}
+use Rattle.text.specs.Held.{entryAt}
+use Rattle.model.specs.Batch.{claims}
+use Rattle.verifier.proofs.Scans.{Passed, pass-start, pass-on, pass-hit, pass-end, scan-start}
+use Rattle.verifier.proofs.ReportScans.{Scanned7, claims-end, claims-beyond, claims-twice, claims-anew}
+use borrow.Author.Needs.{needs}
+use Rattle.verifier.proofs.report_rows.row_7.Statement.{statement}
+use Rattle.verifier.proofs.report_rows.row_7.Tie as tie
+
+abbrev Inv-loop : tie.InvT-loop
+Inv-loop ofs m logs n column i rid num p j₀ j = Passed (claims rid num) (entryAt logs) i j
+
+abbrev μ-loop : tie.MeasureT-loop
+μ-loop ofs m logs n column i rid num p j₀ j = i - j
+
+abbrev Inv-lines : tie.InvT-lines
+Inv-lines ofs m logs n column i₀ i = Scanned7 ofs m logs n i
+
+abbrev μ-lines : tie.MeasureT-lines
+μ-lines ofs m logs n column i₀ i = n - i
+
+lines-holds : tie.Need-lines-holds Inv-loop μ-loop Inv-lines μ-lines
+lines-holds c = scan-start
+
+loop-holds : tie.Need-loop-holds Inv-loop μ-loop Inv-lines μ-lines
+loop-holds c = pass-start
+
+claims-at-requires : tie.Need-claims-at-requires Inv-loop μ-loop Inv-lines μ-lines
+claims-at-requires c κs = (omega (arith, c .before .before .before .before .before .before .before .before .pre .1 .few), (c .before .before .before .before .before .before .before .before .pre .1 .claim _ (search needs), c .before .before .pack .ensures))
+
+loop-again : tie.Need-loop-again Inv-loop μ-loop Inv-lines μ-lines
+loop-again c = pass-on (c .before .before .before .loop .inv) _ refl (search needs) (sym (c .before .claims-at .ensures) ∙ c .if2 .left)
+
+lines-again : tie.Need-lines-again Inv-loop μ-loop Inv-lines μ-lines
+lines-again c =
+    claims-anew _ _ _ _ (c .before .before .before .before .before .before .before .lines .inv) (search needs) _ (c .before .before .before .before .before .entry-at .ensures) (sym (c .before .before .before .before .outside .ensures) ∙ c .before .before .before .if1 .left)
+    (pass-end (c .before .loop .inv) (search needs))
+
+returns : tie.Need-returns Inv-loop μ-loop Inv-lines μ-lines
+returns c =
+    let s = c .before .before .lines .inv in
+    ⊎-elim (λ w. absurd (omega arith))
+    (⊎-elim
+    (λ w. claims-beyond _ _ _ _ s (w .0 .taken) _ (w .1 .ensures) (sym (w .2 .ensures) ∙ w .3 .taken))
+    (λ w. claims-twice _ _ _ _ s (w .0 .taken) _ (w .1 .ensures)
+    (pass-hit (w .5 .inv) _ refl (w .6 .taken) (sym (w .7 .ensures) ∙ w .8 .taken))))
+    (c .before .lines-test .came)
+
+returns-2 : tie.Need-returns-2 Inv-loop μ-loop Inv-lines μ-lines
+returns-2 c = claims-end _ _ _ _ (c .before .before .lines .inv) (search needs)
+
+pub row-7-spec : {M : Type 1} → statement M
+row-7-spec =
+    tie.close
+    (tie.spec
+    Inv-loop
+    μ-loop
+    Inv-lines
+    μ-lines
+    lines-holds
+    (λ c κs. search needs)
+    (λ c κs. search needs)
+    (λ c κs. search needs)
+    loop-holds
+    claims-at-requires
+    (λ c. search needs)
+    (λ c. search needs)
+    loop-again
+    (λ c. search needs)
+    (λ c. search needs)
+    lines-again
+    (λ c. search needs)
+    (λ c. search needs)
+    returns
+    returns-2)

@@ -1,0 +1,42 @@
+-- `has_like` meets its contract. No event passed is like it.
+use Prim.Native.Nat.{_-_}
+use mathlib.Core.Path.{sym, _∙_}
+use Rattle.text.specs.Held.{eventAt}
+use Rattle.verifier.specs.Steps.{alike}
+use Rattle.verifier.proofs.Scans.{Passed, pass-start, pass-on, pass-hit-in, pass-end-in}
+use borrow.Author.Needs.{needs}
+use Rattle.verifier.proofs.trace_rows.has_like.Statement.{statement}
+use Rattle.verifier.proofs.trace_rows.has_like.Tie as tie
+
+abbrev Inv-loop : tie.InvT-loop
+Inv-loop events n e j₀ j = Passed (λ d. alike d e) (eventAt events) n j
+
+abbrev μ-loop : tie.MeasureT-loop
+μ-loop events n e j₀ j = n - j
+
+loop-holds : tie.Need-loop-holds Inv-loop μ-loop
+loop-holds c = pass-start
+
+returns : tie.Need-returns Inv-loop μ-loop
+returns c = pass-hit-in (c .before .before .before .before .loop .inv) _ (c .before .before .event-at .ensures) (search needs) (sym (c .before .like .ensures) ∙ c .if1 .taken)
+
+loop-again : tie.Need-loop-again Inv-loop μ-loop
+loop-again c = pass-on (c .before .before .before .before .loop .inv) _ (c .before .before .event-at .ensures) (search needs) (sym (c .before .like .ensures) ∙ c .if1 .left)
+
+returns-2 : tie.Need-returns-2 Inv-loop μ-loop
+returns-2 c = pass-end-in (c .before .loop .inv) (search needs)
+
+pub has-like-spec : {M : Type 1} → statement M
+has-like-spec =
+    tie.close
+    (tie.spec
+    Inv-loop
+    μ-loop
+    loop-holds
+    (λ c κs. search needs)
+    (λ c κs. search needs)
+    returns
+    (λ c. search needs)
+    (λ c. search needs)
+    loop-again
+    returns-2)

@@ -1,0 +1,13 @@
+-- What the program prints of a result: four lines, refused or not.
+use Prim.Native.Nat.{ℕ}
+use mathlib.Core.List.{List, [], _∷_, _++_}
+use Rattle.lines.specs.Bytes.{bytes}
+use Rattle.lines.specs.LineText.{lineText}
+use Rattle.verifier.specs.declared.Audited.{Audited}
+
+unfoldable pub auditedText : Audited → List ℕ
+auditedText a =
+    lineText (bytes "verdict=") (a .verdict ∷ [])
+    ++ (lineText (bytes "line=") (a .line ∷ [])
+    ++ (lineText (bytes "requests=") (a .requests ∷ [])
+    ++ lineText (bytes "operations=") (a .operations ∷ [])))

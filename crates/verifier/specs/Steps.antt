@@ -1,0 +1,119 @@
+-- What the private functions of this crate promise. The public contracts do not need it.
+use Prim.Native.Nat.{ℕ, _+_, _*_, _%_, _≤_, _<_}
+use mathlib.Core.Bool.{Bool, true, false, not, _||_}
+use mathlib.Core.List.{List, [], _∷_}
+use mathlib.Core.Option.{none}
+use mathlib.Core.Path.{_≡_}
+use lib.Dec.{eqb, ltb}
+use lib.ListN.{length, getD}
+use Rattle.text.specs.Held.{eventAt, ofAt, entryAt, noProgram, programAt, Bounded}
+use Rattle.text.specs.Report.{Report}
+use Rattle.text.specs.Rows.{firsts}
+use Rattle.text.specs.Text.{Read, count}
+use Rattle.text.specs.Trace.{isRequest}
+use Rattle.text.specs.declared.programs.Program.{Program}
+use Rattle.text.specs.declared.programs.Programs.{Programs}
+use Rattle.text.specs.declared.report.Of.{Of}
+use Rattle.text.specs.declared.trace.Event.the-variants.{Request, Response}
+use Rattle.text.specs.declared.trace.Event.{Event}
+use Rattle.ordering.specs.Lists.{All}
+use Rattle.model.specs.Audit.{row4, row4Open, reportChecks}
+use Rattle.model.specs.Batch.{Batch, named, countOf}
+use Rattle.model.specs.Checks.{check, firstFault}
+use Rattle.machine.specs.Instance.{machine}
+use Rattle.machine.specs.Objects.{atStart}
+use Rattle.machine.specs.Processes.{limit}
+use Rattle.verifier.specs.Faults.{badLine, contents, known, batchOf, audited}
+use Rattle.verifier.specs.declared.Audited.{Audited}
+
+-- whether one of several passes a test
+abbrev pub any : {A : Type 0} → (A → Bool) → List A → Bool
+any p [] = false
+any p (x ∷ xs) = p x || any p xs
+
+-- two events of one kind and one rid
+abbrev pub alike : Event → Event → Bool
+alike (Request q p x y) (Request r prog a b) = eqb q r
+alike (Request q p x y) (Response r status value) = false
+alike (Response q s v) (Request r prog a b) = false
+alike (Response q s v) (Response r status value) = eqb q r
+
+abbrev pub hasLike : Event → List Event → Bool
+hasLike e ds = any (λ d. alike d e) ds
+
+-- an event that has a known program, or a request of its rid among the events above it
+abbrev pub mayStand : (known : ℕ → Bool) → List Event → Event → Bool
+mayStand known above (Request r prog a b) = known prog
+mayStand known above (Response r status value) = hasLike (Request r 0 0 0) above
+
+-- an event that asks for no response, or has it in the trace
+abbrev pub settles : List Event → Event → Bool
+settles trace (Request r prog a b) = hasLike (Response r 0 0) trace
+settles trace (Response r status value) = true
+
+-- no count allows operation k of request r
+abbrev pub beyond : List Of → (rid num : ℕ) → Bool
+beyond ofs r k = not (named ofs r) || (eqb k 0 || ltb (countOf ofs r) k)
+
+-- a claim in one number
+abbrev pub packed : (rid num : ℕ) → ℕ
+packed r k = r % 65536 * 512 + k % 512
+
+-- the claims of the first n log lines stand in a column
+pub record Packed (logs : List ℕ) (n : ℕ) (column : List ℕ) : Type 0 where
+  pub few : n ≤ 1024
+  pub claim : (i : ℕ) → i < n → getD column i 0 ≡ packed (entryAt logs i .rid) (entryAt logs i .num)
+
+-- a report that stands in arrays
+abbrev pub reported : (ofs : List ℕ) (m : ℕ) (logs : List ℕ) (n : ℕ) → Batch
+reported ofs m logs n = record { trace = []; ofs = firsts (ofAt ofs) m; log = firsts (entryAt logs) n }
+
+-- ── the audit from one text to the next ──
+abbrev pub refusal : (verdict line : ℕ) → Audited
+refusal verdict line = record { verdict = verdict; line = line; requests = 0; operations = 0 }
+
+-- what stands in the arrays
+abbrev pub tableIn : Programs → List Program
+tableIn ps = firsts (programAt (ps .table)) (ps .n)
+
+abbrev pub eventsIn : List ℕ → ℕ → List Event
+eventsIn events t = firsts (eventAt events) t
+
+abbrev pub linesIn : (ofs : List ℕ) (m : ℕ) (logs : List ℕ) (n : ℕ) → Report
+linesIn ofs m logs n = record { ofs = firsts (ofAt ofs) m; log = firsts (entryAt logs) n }
+
+-- programs and a trace that were read
+pub record TraceHeld (ps : Programs) (t : ℕ) : Type 0 where
+  pub programs : ps .n ≤ 16
+  pub bounded : (i : ℕ) → i < ps .n → Bounded (getD (ps .table) i noProgram)
+  pub events : t ≤ 128
+
+-- a report whose fields are in range
+pub record InRange (r : Report) : Type 0 where
+  pub objects : All (λ l. l .op .object < 16) (r .log)
+  pub counts : All (λ x. x .count ≤ 256) (r .ofs)
+
+-- and a report, where row 4 does not hold
+pub record ReportHeld (ps : Programs) (events : List ℕ) (t : ℕ) (ofs : List ℕ) (m : ℕ) (logs : List ℕ) (n : ℕ) : Type 0 where
+  pub held : TraceHeld ps t
+  pub lines4 : row4 (known (tableIn ps)) (eventsIn events t) ≡ none
+  pub answered4 : row4Open (eventsIn events t) ≡ none
+  pub few : m ≤ 64
+  pub fewer : n ≤ 1024
+  pub ranges : InRange (linesIn ofs m logs n)
+
+-- the audit from row 6 on, and from row 4 on
+abbrev pub auditedReport : List Program → List Event → Report → Audited
+auditedReport table events lines =
+    audited (firstFault (reportChecks (machine limit table) atStart (batchOf events lines))) (count isRequest events) (length (lines .log))
+
+abbrev pub auditedTrace : List Program → List Event → Read Report → Audited
+auditedTrace table events report =
+    let lines = contents (record { ofs = []; log = [] }) report in
+    audited
+    (firstFault
+    (check 4 (row4 (known table) events)
+    ∷ check 4 (row4Open events)
+    ∷ check 5 (badLine report)
+    ∷ reportChecks (machine limit table) atStart (batchOf events lines)))
+    (count isRequest events) (length (lines .log))

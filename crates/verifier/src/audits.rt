@@ -1,0 +1,148 @@
+// The audit of three texts: one row after the other, up to the first fault.
+use crate::Audited;
+use crate::report_rows::pack_claims;
+use crate::report_rows::row_6;
+use crate::report_rows::row_7;
+use crate::report_rows::row_8;
+use crate::trace_rows::row_4;
+use crate::trace_rows::row_4_open;
+use machine::Ruling;
+use machine::check_rules;
+use replay::Fault;
+use replay::judge;
+use text::Lines;
+use text::Programs;
+use text::ReportLines;
+use text::read_programs;
+use text::read_report;
+use text::read_trace;
+ghost use mathlib.Core.Path.{_≡_};
+ghost use mathlib.Core.Logic.{_↔_};
+ghost use Rattle.text.specs.Report.{readReport};
+ghost use Rattle.model.specs.Checks.{verdict};
+ghost use Rattle.verifier.specs.Accepts.{Accepts};
+ghost use Rattle.verifier.specs.Faults.{audited, auditOf};
+ghost use Rattle.verifier.specs.Steps.{refusal, TraceHeld, tableIn, eventsIn, linesIn, auditedTrace, ReportHeld, auditedReport};
+
+// A refusal, whose counts are 0.
+fn refused(verdict: u64, line: usize) -> Audited
+    ensures { λ r. ⌜ r ≡ refusal verdict line ⌝ }
+{
+    Audited {
+        verdict,
+        line: line as u64,
+        requests: 0,
+        operations: 0,
+    }
+}
+
+// What rows 9 to 12 leave of a batch with these counts.
+fn result(f: Fault, requests: usize, operations: usize) -> Audited
+    ensures { λ r. ⌜ r ≡ audited (verdict (f .row) (f .line)) requests operations ⌝ }
+{
+    if f.row != 0 {
+        return Audited {
+            verdict: f.row,
+            line: f.line,
+            requests: 0,
+            operations: 0,
+        };
+    }
+    Audited {
+        verdict: f.row,
+        line: f.line,
+        requests: requests as u64,
+        operations: operations as u64,
+    }
+}
+
+// Rows 6 to 12.
+fn audit_report(
+    ps: Programs,
+    events: &[u64; 640],
+    t: usize,
+    ofs: &[u64; 192],
+    m: usize,
+    logs: &[u64; 6144],
+    n: usize,
+) -> Audited
+    requires { ⌜ ReportHeld ps (now events) t (now ofs) m (now logs) n ⌝ }
+    ensures { λ r. ⌜ r ≡ auditedReport (tableIn ps) (eventsIn (now (events .entry)) t) (linesIn (now (ofs .entry)) m (now (logs .entry)) n) ⌝ }
+{
+    match row_6(events, t, ofs, m) {
+        Ruling::Broken(line) => {
+            return refused(6, line);
+        }
+        Ruling::Kept => {}
+    }
+    let mut column = [0u64; 1024];
+    pack_claims(logs, n, &mut column);
+    match row_7(ofs, m, logs, n, &column) {
+        Ruling::Broken(line) => {
+            return refused(7, line);
+        }
+        Ruling::Kept => {}
+    }
+    match row_8(ofs, m, logs, n, &column) {
+        Ruling::Broken(line) => {
+            return refused(8, line);
+        }
+        Ruling::Kept => {}
+    }
+    result(judge(ps, events, t, ofs, m, logs, n), m, n)
+}
+
+// Rows 4 to 12.
+fn audit_trace(ps: Programs, events: &[u64; 640], t: usize, report: &[u8]) -> Audited
+    requires { ⌜ TraceHeld ps t ⌝ }
+    ensures { λ r. ⌜ r ≡ auditedTrace (tableIn ps) (eventsIn (now (events .entry)) t) (readReport (now (report .entry))) ⌝ }
+{
+    match row_4(events, t, ps.n) {
+        Ruling::Broken(line) => {
+            return refused(4, line);
+        }
+        Ruling::Kept => {}
+    }
+    match row_4_open(events, t) {
+        Ruling::Broken(line) => {
+            return refused(4, line);
+        }
+        Ruling::Kept => {}
+    }
+    let mut ofs = [0u64; 192];
+    let mut logs = [0u64; 6144];
+    match read_report(report, &mut ofs, &mut logs) {
+        ReportLines::BadLine(line) => {
+            return refused(5, line);
+        }
+        ReportLines::Counts(m, n) => {
+            return audit_report(ps, events, t, &ofs, m, &logs, n);
+        }
+    }
+}
+
+// The verdict on three texts: the first fault, or none. Verdict 0 says that an order exists which demand 3 allows.
+pub fn audit(programs: &[u8], trace: &[u8], report: &[u8]) -> Audited
+    ensures meaning { λ r. ⌜ r ≡ auditOf (now (programs .entry)) (now (trace .entry)) (now (report .entry)) ⌝ }
+    ensures exactly { λ r. ⌜ (r .verdict ≡ 0) ↔ Accepts (now (programs .entry)) (now (trace .entry)) (now (report .entry)) ⌝ }
+{
+    let ps = read_programs(programs);
+    if !ps.ok {
+        return refused(1, ps.line as usize);
+    }
+    match check_rules(ps) {
+        Ruling::Broken(line) => {
+            return refused(2, line);
+        }
+        Ruling::Kept => {}
+    }
+    let mut events = [0u64; 640];
+    match read_trace(trace, &mut events) {
+        Lines::Unreadable(line) => {
+            return refused(3, line);
+        }
+        Lines::Readable(t) => {
+            return audit_trace(ps, &events, t, report);
+        }
+    }
+}

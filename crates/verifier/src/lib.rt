@@ -1,0 +1,16 @@
+// The audit: the first fault of programs, trace and report, in the order of the scope's table.
+mod audits;
+mod printing;
+mod report_rows;
+mod trace_rows;
+
+pub use audits::audit;
+pub use printing::audit_text;
+
+// What the audit finds: the number of the verdict with its line, and on acceptance how many `request` and how many `log` lines there are.
+pub struct Audited {
+    pub verdict: u64,
+    pub line: u64,
+    pub requests: u64,
+    pub operations: u64,
+}
