@@ -206,7 +206,7 @@ module _ (table : List Program) (events : List ℕ) (t : ℕ) (ofs : List ℕ) (
     pub programs : program ≡ getD table (start .prog % 16) noProgram
     pub replays : Replays logs n (x .rid) (x .count) (start .a) (start .b) (k * 256) (program .code) old paths end
     pub done : d ≡ doneIn end
-    pub group : FirstFrom (λ i. eqb (ofAt ofs i .group) (x .group)) 0 m f
+    pub group : FirstFrom (λ i. eqb (ofAt ofs i .group) (ofAt ofs k .group)) 0 m f
     pub row-is : row ≡ rowOf (outcomeIn (getD (set progs k (start .prog)) k 0) paths (k * 256) end) (said (reply .status) (reply .value))
         (ended silent (pathAt (set progs k (start .prog)) (set lengths k d) paths f))
 
@@ -241,11 +241,11 @@ module _ (table : List Program) (events : List ℕ) (t : ℕ) (ofs : List ℕ) (
   step-of x k progs lengths old paths start d row e w = subst (λ x. Step x k progs lengths old paths start d row) e w
 
   -- what the row asks for
-  pub row-ready : (x : Of) (k f d e : ℕ) (progs lengths paths : List ℕ) → Judging progs lengths paths k → k < m → x ≡ ofAt ofs k →
-      FirstFrom (λ i. eqb (ofAt ofs i .group) (x .group)) 0 m f → d ≡ e → e ≤ 256 →
+  pub row-ready : (k f d e : ℕ) (progs lengths paths : List ℕ) → Judging progs lengths paths k → k < m →
+      FirstFrom (λ i. eqb (ofAt ofs i .group) (ofAt ofs k .group)) 0 m f → d ≡ e → e ≤ 256 →
       (k < 64) × (f < 64) × (getD (set lengths k d) k 0 ≡ e) × (e ≤ 256)
-  row-ready x k f d e progs lengths paths j low q g p h =
-      let l = first-before (λ i. eqb (ofAt ofs i .group) (x .group)) m f k g low (rw (sym q) (eqb-self (x .group))) in (
+  row-ready k f d e progs lengths paths j low g p h =
+      let l = first-before (λ i. eqb (ofAt ofs i .group) (ofAt ofs k .group)) m f k g low (eqb-self (ofAt ofs k .group)) in (
         omega (arith, j .few),
         omega (arith, j .few),
         getD-set-same lengths k d 0 (omega (arith, j .lengths-room, j .few)) ∙ p,

@@ -150,6 +150,7 @@ pub fn judge_requests(
     let mut progs = [0u64; 64];
     let mut k: usize = 0;
     while k < m {
+        let f = first_of_group(ofs, m, k);
         let x = of_at(ofs, k);
         let start = arrival_at(events, request_at(events, t, x.rid));
         let reply = reply_at(events, response_at(events, t, x.rid));
@@ -158,7 +159,6 @@ pub fn judge_requests(
         let end = replay(p, start, x, k, logs, n, heads, afters, answers, &mut paths);
         progs[k] = prog;
         lengths[k] = done_of(end);
-        let f = first_of_group(ofs, m, x.group);
         let row = row_of(end, reply, &progs, &lengths, &paths, k, f);
         if row != 0 {
             return Fault {
