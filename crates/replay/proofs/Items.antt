@@ -1,9 +1,9 @@
 -- The items of a batch in arrays, and that the merge of the arrays is the merge of the batch.
-use mathlib.Core.Bool.{Bool, true, false, cond, not}
-use mathlib.Core.List.{List, [], _∷_, _++_, map, List·Memᴰ}
+use mathlib.Core.Bool.{Bool, true, false, not}
+use mathlib.Core.List.{List, [], _∷_, map}
 use mathlib.Core.Path.{_≡_, refl, sym, ap, subst, _∙_}
 use Prim.Native.Nat.{ℕ, zero, suc, _+_, _-_, _%_, _≤_, _<_, min}
-use borrow.Author.Tests.{ltb-true, ltb-false, lt-ltb, le-ltb, ne-eqb}
+use borrow.Author.Tests.{ltb-true, ltb-false, ne-eqb}
 use lib.Dec.{eqb, ltb}
 use lib.ListN.{getD, set, take, length, length-set, length-take, length-append, List·getD-append}
 use lib.Seq.{getD-set-same, getD-set-other, getD-append-add, getD-take}
@@ -11,28 +11,26 @@ use native.Mathlib.Nat.{mod-eq-of-lt}
 use native.Mathlib.Omega.{arith}
 use Rattle.text.specs.Held.{eventAt, ofAt, entryAt}
 use Rattle.text.specs.Rows.{firsts}
-use Rattle.text.specs.declared.report.Entry.{Entry}
 use Rattle.text.specs.declared.report.Of.{Of}
 use Rattle.text.specs.declared.trace.Event.the-variants.{Request, Response}
 use Rattle.text.specs.declared.trace.Event.{Event}
 use Rattle.text.proofs.RowLaws.{firsts-length}
 use Rattle.ordering.specs.Lists.{All}
-use Rattle.ordering.specs.Order.{mergeAll}
 use Rattle.ordering.specs.Positions.{slot, mergeOf, countsOf}
 use Rattle.ordering.specs.declared.Merged.{Merged}
 use Rattle.ordering.proofs.Basics.{clash, byBool, same-or, eqb-yes, yes-eqb}
-use Rattle.ordering.proofs.Items.{Held, both, merge-items}
+use Rattle.ordering.proofs.Items.{Held, merge-items}
 use Rattle.ordering.proofs.Lists.{mem-all}
-use Rattle.model.specs.Audit.{leftOver, row9}
+use Rattle.model.specs.Audit.{leftOver}
 use Rattle.model.specs.Batch.{Batch, countOf}
 use Rattle.model.specs.Checks.{breaks}
 use Rattle.model.specs.Nodes.{Node, ev, ln, lane, rid, num, nodes}
 use Rattle.model.proofs.Claims.{Counted, Reported, counted-mem, rows-reported}
 use Rattle.model.proofs.Requests.{Named, events-named}
-use Rattle.model.proofs.Trace.{Formed, row4-order, row6-matching}
 use Rattle.replay.specs.Judges.{batchOf, Ready}
 use Rattle.replay.specs.Promises.{FirstFrom, nodeAt, laneIn, numberIn, ItemIs, ItemsTo, Returns}
 use Rattle.replay.proofs.Places.{one-place}
+use Rattle.replay.proofs.Ready.{ready-formed}
 use Rattle.replay.proofs.Searches.{firsts-front, firsts-at, firsts-all, search-hit}
 
 -- ── the item of an event ──
@@ -118,12 +116,6 @@ module _ (events : List ℕ) (t : ℕ) (ofs : List ℕ) (m : ℕ) (logs : List �
       ∙ map-at ev (eventAt events) t (i - n) none (omega arith)))
 
   module _ (low : t ≤ 128) (few : m ≤ 64) (known : ℕ → Bool) (ready : Ready known batch) where
-    formed : Formed batch
-    formed = record {
-      inOrder = row4-order known (batch .trace) .0 (ready .none-to-8 .0) .0;
-      matching = row6-matching batch .0 (ready .none-to-8 .2);
-    }
-
     reported : Reported batch
     reported = rows-reported batch .0 (ready .none-to-8 .3, ready .none-to-8 .4)
 
@@ -177,7 +169,7 @@ module _ (events : List ℕ) (t : ℕ) (ofs : List ℕ) (m : ℕ) (logs : List �
         (λ e.
         let l = ltb-false i n e in
         rw e (fine-event (eventAt events (i - n))
-        (firsts-all (λ e. Named batch (rid (ev e))) (eventAt events) t (i - n) (events-named batch formed) (omega arith))))
+        (firsts-all (λ e. Named batch (rid (ev e))) (eventAt events) t (i - n) (events-named batch (ready-formed known batch ready)) (omega arith))))
 
     module _ (lanes requests numbers : List ℕ) (h : ItemsTo events ofs m logs n (n + t) lanes requests numbers) where
       abbrev place : ℕ → ℕ

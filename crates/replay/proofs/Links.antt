@@ -1,7 +1,7 @@
 -- Laws of the log lines linked by request and number: one line more at the front, and the walk down a chain.
-use mathlib.Core.Bool.{Bool, true, false, cond, _&&_}
+use mathlib.Core.Bool.{true, false}
 use mathlib.Core.List.{List}
-use mathlib.Core.Path.{_≡_, refl, sym, ap, subst, _∙_}
+use mathlib.Core.Path.{_≡_, sym, ap, subst, _∙_}
 use Prim.Native.Nat.{ℕ, suc, _-_, _≤_, _<_}
 use borrow.Author.Tests.{ltb-true, ltb-false}
 use lib.Dec.{eqb, ltb}
@@ -9,7 +9,7 @@ use lib.ListN.{getD, set, length, length-set, replicate, getD-replicate}
 use lib.Seq.{getD-set-same, getD-set-other}
 use native.Mathlib.Omega.{arith}
 use Rattle.text.specs.declared.report.Entry.{Entry}
-use Rattle.ordering.proofs.Basics.{clash, byBool, byEq, same-or, and-true, yes-eqb, eqb-yes, eqb-no, no-eqb}
+use Rattle.ordering.proofs.Basics.{byBool, same-or, and-true, yes-eqb, eqb-yes, eqb-no, no-eqb}
 use Rattle.model.specs.Batch.{claims}
 use Rattle.replay.specs.Promises.{FirstFrom, bucketOf, inBucket, Linked}
 

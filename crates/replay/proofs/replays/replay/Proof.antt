@@ -1,5 +1,4 @@
 -- `replay` meets its contract. The invariant: the definition at where the request stands gives what it gives at the start.
-use mathlib.Core.Path.{_≡_, sym, ap, _∙_}
 use Prim.Native.Nat.{_-_}
 use native.Mathlib.Omega.{arith}
 use borrow.Author.Needs.{needs}

@@ -1,9 +1,8 @@
 -- `judge_requests` meets its contract. The invariant: the requests below slot k broke no row, and their paths are kept.
-use mathlib.Core.Path.{_≡_, refl, sym, subst, _∙_}
+use mathlib.Core.Path.{refl}
 use Prim.Native.Nat.{_-_}
 use native.Mathlib.Omega.{arith}
 use borrow.Author.Needs.{needs}
-use Rattle.text.specs.Held.{ofAt}
 use Rattle.replay.proofs.Judging.{Judging, step-of, row-ready, judging-start, judging-next, judging-stop, judging-end}
 use Rattle.replay.proofs.requests.judge_requests.Statement.{statement}
 use Rattle.replay.proofs.requests.judge_requests.Tie as tie

@@ -1,8 +1,8 @@
 -- `row_of` meets its contract.
-use mathlib.Core.Path.{_≡_, sym, ap, _∙_}
+use mathlib.Core.Path.{sym, ap, _∙_}
 use borrow.Author.Needs.{needs}
 use native.Mathlib.Omega.{arith}
-use mathlib.Core.Bool.{true, false, cond}
+use mathlib.Core.Bool.{cond}
 use Rattle.replay.proofs.Rows.{row-differs, row-status, row-value, row-path}
 use Rattle.replay.proofs.requests.row_of.Statement.{statement}
 use Rattle.replay.proofs.requests.row_of.Tie as tie
