@@ -75,7 +75,8 @@ ops-firsts f zero = refl
 ops-firsts f (suc n) = ap (λ t. t ++ f n ∷ []) (ops-firsts f n)
 
 answer-at : (line : ℕ → Entry) (n i : ℕ) (c : ℕ → Content) → i < n →
-    getD (answersFrom c (firsts (λ j. line j .op) n)) i 0 ≡ apply (line i .op) (stateAt (λ c l. after c (l .op)) line c i (line i .op .object)) .0
+    getD (answersFrom c (firsts (λ j. line j .op) n)) i 0 ≡ apply (line i .op) (stateAt (λ c l. after c (l .op))
+    line c i (line i .op .object)) .0
 answer-at line zero i c h = absurd (omega arith)
 answer-at line (suc n) zero c h = rw (firsts-front (λ j. line j .op) n)
 answer-at line (suc n) (suc i) c h =

@@ -38,7 +38,8 @@ module _ (ofs : List ℕ) (m : ℕ) (x : Event) (s : ℕ) where
   pub request-item : (q prog a b : ℕ) → x ≡ Request q prog a b → FirstFrom (λ i. eqb (ofAt ofs i .rid) q) 0 m s → ItemIs ofs m (ev x) 0 s 0
   request-item q prog a b e f = subst (λ x. ItemIs ofs m (ev x) 0 s 0) (sym e) (record { lane-is = refl; place = f; number-is = refl })
 
-  pub response-item : (q status value : ℕ) (y : Of) → x ≡ Response q status value → FirstFrom (λ i. eqb (ofAt ofs i .rid) q) 0 m s → y ≡ ofAt ofs s →
+  pub response-item : (q status value : ℕ) (y : Of) → x ≡ Response q status value → FirstFrom (λ i. eqb (ofAt ofs i .rid) q) 0 m s →
+      y ≡ ofAt ofs s →
       ItemIs ofs m (ev x) 0 s (y .count % 65535 + 1)
   response-item q status value y e f d = subst (λ x. ItemIs ofs m (ev x) 0 s (y .count % 65535 + 1)) (sym e)
       (record { lane-is = refl; place = f; number-is = ap (λ y. y .count % 65535 + 1) d })
@@ -133,7 +134,8 @@ module _ (events : List ℕ) (t : ℕ) (ofs : List ℕ) (m : ℕ) (logs : List �
     -- the count of a request stands in its slot
     slot-count : (r s : ℕ) → FirstFrom (λ i. eqb (ofAt ofs i .rid) r) 0 m s → s < m → countOf (batch .ofs) r ≡ ofAt ofs s .count
     slot-count r s f l =
-        search-hit (λ (c : Unit {0}) xs. countOf xs r) (λ x. eqb (x .rid) r) (λ c x. x .count) (λ c x. c) (λ c x xs. refl) m s (ofAt ofs) tt f l
+        search-hit (λ (c : Unit {0}) xs. countOf xs r) (λ x. eqb (x .rid) r) (λ c x. x .count) (λ c x. c) (λ c x xs. refl) m s (ofAt ofs)
+        tt f l
 
     small : (s : ℕ) → s < m → ofAt ofs s .count ≤ 256
     small s l = firsts-all (λ x. x .count ≤ 256) (ofAt ofs) m s (ready .counts) l
@@ -169,7 +171,8 @@ module _ (events : List ℕ) (t : ℕ) (ofs : List ℕ) (m : ℕ) (logs : List �
         (λ e.
         let l = ltb-false i n e in
         rw e (fine-event (eventAt events (i - n))
-        (firsts-all (λ e. Named batch (rid (ev e))) (eventAt events) t (i - n) (events-named batch (ready-formed known batch ready)) (omega arith))))
+        (firsts-all (λ e. Named batch (rid (ev e))) (eventAt events) t (i - n) (events-named batch (ready-formed known batch ready))
+        (omega arith))))
 
     module _ (lanes requests numbers : List ℕ) (h : ItemsTo events ofs m logs n (n + t) lanes requests numbers) where
       abbrev place : ℕ → ℕ
@@ -192,7 +195,8 @@ module _ (events : List ℕ) (t : ℕ) (ofs : List ℕ) (m : ℕ) (logs : List �
         slot-at : slot requests 64 i ≡ place i
         slot-at = mod-eq-of-lt (omega (arith, placed, few))
 
-      held : (front : List ℕ) → front ≡ take (n + t) lanes → Held lane rid (num (countOf (batch .ofs))) (nodes batch) none front requests numbers
+      held : (front : List ℕ) → front ≡ take (n + t) lanes → Held lane rid (num (countOf (batch .ofs))) (nodes batch)
+          none front requests numbers
       held front e = record {
         lane-at = λ i l.
             let w = within i l in
@@ -200,7 +204,8 @@ module _ (events : List ℕ) (t : ℕ) (ofs : List ℕ) (m : ℕ) (logs : List �
             (sym (ap (λ t. getD t i 0) e ∙ getD-take (n + t) lanes i 0 w ∙ is i l .lane-is));
         number-at = λ i l.
             let w = within i l in
-            ap (num (countOf (batch .ofs))) (node-is i w) ∙ fine i w .numbered (place i) (is i l .place) (placed i l) ∙ sym (is i l .number-is);
+            ap (num (countOf (batch .ofs))) (node-is i w) ∙ fine i w .numbered (place i) (is i l .place) (placed i l)
+            ∙ sym (is i l .number-is);
         one-request = λ i j a b p.
             slot-at i a
             ∙ one-place _ m (place i) (place j) (placed-at i a)
@@ -219,7 +224,8 @@ left-breaks (x ∷ xs) f = rw (ne-eqb (suc (length xs)) 0 (λ e. omega arith))
 
 module _ (events : List ℕ) (t : ℕ) (ofs : List ℕ) (m : ℕ) (logs : List ℕ) (n : ℕ) (low : t ≤ 128) (few : m ≤ 64) (fewer : n ≤ 1024)
     (lanes requests numbers : List ℕ) (h : ItemsTo events ofs m logs n (n + t) lanes requests numbers) where
-  pub merge-returns : (front out : List ℕ) → front ≡ take (n + t) lanes → length out ≡ 1152 → (r : Merged) → r ≡ countsOf front requests numbers out →
+  pub merge-returns : (front out : List ℕ) → front ≡ take (n + t) lanes → length out ≡ 1152 → (r : Merged) →
+      r ≡ countsOf front requests numbers out →
       Returns events t ofs m logs n (not (eqb (r .left) 0))
   merge-returns front out e o r c known ready =
       let b = batchOf events t ofs m logs n in

@@ -115,7 +115,8 @@ module _ (table : List Program) (events : List ℕ) (t : ℕ) (ofs : List ℕ) (
     module _ (s : ℕ) (f : FirstFrom (λ i. opens r (eventAt events i)) 0 t s) where
       arrived : s < t
       arrived = byBool (ltb s t) (λ h. ltb-true s t h) (λ h. clash
-          (let e = search-none (λ (c : Unit {0}) es. requestOf (machineOf table) es r) (opens r) (λ c e. startFrom (machineOf table) r e) (λ c e. c)
+          (let e = search-none (λ (c : Unit {0}) es. requestOf (machineOf table) es r) (opens r) (λ c e. startFrom (machineOf table) r e)
+          (λ c e. c)
           (request-step (machineOf table) r) t s (eventAt events) tt f (ltb-false s t h) in
           let a = ofs-asked (machineOf table) batch (ready-formed known batch ready) (ofAt ofs k) mem in
           let d = a .1 in cc))
@@ -136,20 +137,24 @@ module _ (table : List Program) (events : List ℕ) (t : ℕ) (ofs : List ℕ) (
             ∙ known-opens known r (eventAt events s) opened
             (firsts-all (KnownIn known) (eventAt events) t s (row4-order known (batch .trace) .0 (ready .none-to-8 .0) .1) arrived))
 
-      module _ (s′ : ℕ) (g : FirstFrom (λ i. closes r (eventAt events i)) 0 t s′) (reply : Said) (e : reply ≡ replyOf (eventAt events s′)) where
-        replied : s′ < t
-        replied = byBool (ltb s′ t) (λ h. ltb-true s′ t h) (λ h. clash
-            (let e = search-none (λ (c : Unit {0}) es. answered r es) (closes r) (λ c e. true) (λ c e. c) (answered-step r) t s′ (eventAt events)
-            tt g (ltb-false s′ t h) in
-            let d = answered-opens (batch .trace) r (eventAt events s) opened
-            (firsts-all (AnsweredIn (batch .trace)) (eventAt events) t s (row4-answered (batch .trace) .0 (ready .none-to-8 .1)) arrived) in cc))
+      module _ (s′ : ℕ) (g : FirstFrom (λ i. closes r (eventAt events i)) 0 t s′) (reply : Said) (e : reply ≡ replyOf (eventAt events s′))
+        where
+          replied : s′ < t
+          replied = byBool (ltb s′ t) (λ h. ltb-true s′ t h) (λ h. clash
+              (let e = search-none (λ (c : Unit {0}) es. answered r es) (closes r) (λ c e. true) (λ c e. c) (answered-step r)
+              t s′ (eventAt events)
+              tt g (ltb-false s′ t h) in
+              let d = answered-opens (batch .trace) r (eventAt events s) opened
+              (firsts-all (AnsweredIn (batch .trace)) (eventAt events) t s (row4-answered (batch .trace) .0 (ready .none-to-8 .1)) arrived)
+              in cc))
 
-        response-is : responseOf (batch .trace) r ≡ said (reply .status) (reply .value)
-        response-is =
-            search-hit (λ (c : Unit {0}) es. responseOf es r) (closes r) (λ c e. replyFrom r e) (λ c e. c) (response-step r) t s′ (eventAt events)
-            tt g replied
-            ∙ reply-closes r (eventAt events s′) (g .found replied .1)
-            ∙ ap (λ x. said (x .status) (x .value)) (sym e)
+          response-is : responseOf (batch .trace) r ≡ said (reply .status) (reply .value)
+          response-is =
+              search-hit (λ (c : Unit {0}) es. responseOf es r) (closes r) (λ c e. replyFrom r e) (λ c e. c) (response-step r)
+              t s′ (eventAt events)
+              tt g replied
+              ∙ reply-closes r (eventAt events s′) (g .found replied .1)
+              ∙ ap (λ x. said (x .status) (x .value)) (sym e)
 
     counted-is : countOf (batch .ofs) r ≡ ofAt ofs k .count
     counted-is = ofs-counted batch (ready-formed known batch ready) (ofAt ofs k) mem
@@ -209,7 +214,8 @@ module _ (table : List Program) (events : List ℕ) (t : ℕ) (ofs : List ℕ) (
       let o : k + 0 ≡ k = omega arith in
       ap (firsts (λ i. ofAt ofs (k + i))) z ∙ firsts-front (λ i. ofAt ofs (k + i)) (m - (k + 1))
       ∙ (λ i. ofAt ofs (o i)
-      ∷ firsts-same (λ i. ofAt ofs (k + suc i)) (λ i. ofAt ofs (k + 1 + i)) (m - (k + 1)) (λ j _. let e : k + suc j ≡ k + 1 + j = omega arith in ap (ofAt ofs) e) i)
+      ∷ firsts-same (λ i. ofAt ofs (k + suc i)) (λ i. ofAt ofs (k + 1 + i)) (m - (k + 1))
+      (λ j _. let e : k + suc j ≡ k + 1 + j = omega arith in ap (ofAt ofs) e) i)
 
   pub judging-start : (progs lengths paths : List ℕ) → m ≤ 64 → length progs ≡ 64 → length lengths ≡ 64 → length paths ≡ 16384 →
       Judging progs lengths paths 0
@@ -310,7 +316,8 @@ module _ (table : List Program) (events : List ℕ) (t : ℕ) (ofs : List ℕ) (
       -- the row that was found is the row of the definitions
       first-is : firstOf (firsts (ofAt ofs) m) (ofAt ofs k .group) ≡ ofAt ofs (w .f) .rid
       first-is =
-          search-hit (λ (c : Unit {0}) xs. firstOf xs (ofAt ofs k .group)) (λ x. eqb (x .group) (ofAt ofs k .group)) (λ c x. x .rid) (λ c x. c)
+          search-hit (λ (c : Unit {0}) xs. firstOf xs (ofAt ofs k .group)) (λ x. eqb (x .group) (ofAt ofs k .group)) (λ c x. x .rid)
+          (λ c x. c)
           (λ c x xs. refl) m (w .f) (ofAt ofs) tt (w .group) (omega (arith, first-low))
 
       abbrev response : Reply
@@ -332,7 +339,8 @@ module _ (table : List Program) (events : List ℕ) (t : ℕ) (ofs : List ℕ) (
           let c : ended (g .0) (pathAt progs′ lengths′ paths (w .f)) ≡ firstOutcome =
           sym (ap (outcome (machineOf table) atStart all) first-is ∙ g .1) in
           let a = sym reply-is in
-          w .row-is ∙ row-first (outcomeIn (getD progs′ k 0) paths (k * 256) (w .end)) (said (w .reply .status) (w .reply .value)) (g .0) (pathAt progs′ lengths′ paths (w .f)) ∙ (λ i. rowOf (o i) (a i) (c i)))
+          w .row-is ∙ row-first (outcomeIn (getD progs′ k 0) paths (k * 256) (w .end)) (said (w .reply .status) (w .reply .value)) (g .0)
+          (pathAt progs′ lengths′ paths (w .f)) ∙ (λ i. rowOf (o i) (a i) (c i)))
 
       checks-split : checksFrom k ≡ checksOf (outcomes k) response firstOutcome (suc k) (checksFrom (k + 1))
       checks-split =
@@ -366,7 +374,8 @@ module _ (table : List Program) (events : List ℕ) (t : ℕ) (ofs : List ℕ) (
           (λ s v e q. kept-more known ready s v e q i (omega arith));
       rest = λ known ready.
           j .rest known ready ∙ ap firstFault (checks-split known ready)
-          ∙ row-none (outcomes k) (response known ready) (firstOutcome known ready) (suc k) (checksFrom (k + 1)) (sym (row-real known ready) ∙ z);
+          ∙ row-none (outcomes k) (response known ready) (firstOutcome known ready) (suc k) (checksFrom (k + 1))
+          (sym (row-real known ready) ∙ z);
     }
 
   pub judging-end : (k : ℕ) (progs lengths paths : List ℕ) → Judging progs lengths paths k → m ≤ k →

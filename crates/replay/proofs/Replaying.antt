@@ -60,7 +60,8 @@ module _ (M : Machine) (f : ℕ → Claim M) (s v : ℕ) where
   alike n k p q h e d = alike-next n k p q (advance p) h e ∙ ap (replay M f (said s v) n k q) d
 
   module _ (k : ℕ) (p : Process) where
-    answered : (n : ℕ) (o : Op) (u : ℕ) → advance p ≡ op o → compare M o (f k) ≡ right u → replays (suc n) k p ≡ replays n (suc k) (resume p u)
+    answered : (n : ℕ) (o : Op) (u : ℕ) → advance p ≡ op o → compare M o (f k) ≡ right u → replays (suc n) k p ≡ replays n (suc k)
+        (resume p u)
     answered n o u e d = rw e (ap (goesOn n k p) d)
 
     unanswered : (n : ℕ) (o : Op) → advance p ≡ op o → compare M o (f k) ≡ wrong → replays (suc n) k p ≡ differs
@@ -148,7 +149,8 @@ module _ (logs : List ℕ) (n rid count base : ℕ) (code : List Instr) (l₀ ol
         g .goes table prog s v c ∙ ap (λ l. replayed table s v count 1 (process prog l 0 0 [])) d
 
     -- a request that stops with status s′ and value v′: the report counts its operations, or not
-    stopping : (paths′ : List ℕ) (done′ s′ v′ : ℕ) {path : List ℕ} → length paths′ ≡ 16384 → ((i : ℕ) → i < base → getD paths′ i 0 ≡ getD old i 0) →
+    stopping : (paths′ : List ℕ) (done′ s′ v′ : ℕ) {path : List ℕ} → length paths′ ≡ 16384 → ((i : ℕ) → i < base →
+        getD paths′ i 0 ≡ getD old i 0) →
         done′ ≤ 256 → pathIn paths′ base done′ ≡ path →
         ((table : List Program) (prog : ℕ) → codeAt limit table prog ≡ code → machineOf table .advance (here prog) ≡ stop s′ v′) →
         ((table : List Program) (prog : ℕ) → codeAt limit table prog ≡ code → machineOf table .pathAtEnd (here prog) ≡ prog ∷ path) →
@@ -232,7 +234,8 @@ module _ (logs : List ℕ) (n rid count base : ℕ) (code : List Instr) (l₀ ol
 
       module _ (o : Op) (into : ℕ) (q : x ≡ Asks o into) where
         asks : (table : List Program) (prog : ℕ) → codeAt limit table prog ≡ code →
-            gone limit table (here prog) ≡ advanced m (stopAt (at % 64 + 1) (done + 1) (Operation o into)) (pathIn paths base done ++ (at % 64) ∷ [])
+            gone limit table (here prog) ≡ advanced m (stopAt (at % 64 + 1) (done + 1) (Operation o into))
+            (pathIn paths base done ++ (at % 64) ∷ [])
         asks table prog d = asked limit table (here prog) h m o into (does table prog (Asks o into) d q)
 
         next : (table : List Program) (prog : ℕ) → codeAt limit table prog ≡ code → machineOf table .advance (here prog) ≡ op o
@@ -283,7 +286,8 @@ module _ (logs : List ℕ) (n rid count base : ℕ) (code : List Instr) (l₀ ol
       pub going-replied : (u : ℕ) → x ≡ Replies u → (end : End) → end ≡ cond (eqb k count) (Ended 0 u (done + 1)) Differs → Ends marked end
       going-replied u q end c =
           stopping marked (done + 1) 0 u room-marked kept-marked (omega arith) path-marked
-          (λ table prog d. ap (λ t. nextOf (t .stop .next)) (replies table prog d)) (λ table prog d. ap (λ t. prog ∷ t .path) (replies table prog d))
+          (λ table prog d. ap (λ t. nextOf (t .stop .next)) (replies table prog d)) (λ table prog d. ap (λ t. prog ∷ t .path)
+          (replies table prog d))
           end c
         where
           replies : (table : List Program) (prog : ℕ) → codeAt limit table prog ≡ code →

@@ -23,7 +23,8 @@ loop-holds c = (omega arith, λ k h. absurd (omega arith))
 returns : tie.Need-returns Inv-loop μ-loop
 returns c =
     rw (sym (c .before .before .before .before .before .of-at .ensures))
-    (here _ _ _ (c .before .before .before .before .loop .inv .1) (rw (sym (c .before .before .of-at2 .ensures)) (eq-eqb _ _ (c .if1 .taken))))
+    (here _ _ _ (c .before .before .before .before .loop .inv .1) (rw (sym (c .before .before .of-at2 .ensures))
+    (eq-eqb _ _ (c .if1 .taken))))
 
 loop-again : tie.Need-loop-again Inv-loop μ-loop
 loop-again c = (

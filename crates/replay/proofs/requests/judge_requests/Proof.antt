@@ -19,20 +19,29 @@ loop-holds c = judging-start _ _ _ _ _ _ _ _ _ _ (c .pre .0) refl refl refl
 
 replay-requires : tie.Need-replay-requires Inv-loop μ-loop
 replay-requires c κs =
-    let h = c .before .before .before .before .before .before .before .before .before .loop in
-    (omega (arith, h .inv .few), h .inv .paths-room, c .before .before .before .before .before .before .before .before .before .before .pre .1)
+    let h = c .before .before .before .before .before .before .before .before .before .loop in (
+      omega (arith, h .inv .few),
+      h .inv .paths-room,
+      c .before .before .before .before .before .before .before .before .before .before .pre .1,
+    )
 
 row-of-requires : tie.Need-row-of-requires Inv-loop μ-loop
 row-of-requires c κs =
     let h = c .before .before .before .before .before .before .before .before .before .before .before .before .before .before .loop in
-    row-ready _ _ _ _ _ _ _ _ _ _ _ _ _ _ (h .inv) (c .before .before .before .before .before .before .before .before .before .before .before .before .before .loop-test .taken) (c .before .before .before .before .before .before .before .before .before .before .before .before .first-of-group .ensures)
+    row-ready _ _ _ _ _ _ _ _ _ _ _ _ _ _ (h .inv)
+    (c .before .before .before .before .before .before .before .before .before .before .before .before .before .loop-test .taken)
+    (c .before .before .before .before .before .before .before .before .before .before .before .before .first-of-group .ensures)
     (c .before .before .before .done-of .ensures) (c .before .before .before .before .replay .ensures .few)
 
 returns : tie.Need-returns Inv-loop μ-loop
 returns c =
-    let h = c .before .before .before .before .before .before .before .before .before .before .before .before .before .before .before .before .loop in
-    judging-stop _ _ _ _ _ _ _ (h .k) _ _ _ _ _ _ _ (h .inv) (c .before .before .before .before .before .before .before .before .before .before .before .before .before .before .before .loop-test .taken)
-    (step-of _ _ _ _ _ _ _ _ _ _ _ _ _ _ _ _ (c .before .before .before .before .before .before .before .before .before .before .before .before .before .of-at .ensures)
+    let h = c .before .before .before .before .before .before .before .before .before .before .before .before .before .before .before
+    .before .loop in
+    judging-stop _ _ _ _ _ _ _ (h .k) _ _ _ _ _ _ _ (h .inv)
+    (c .before .before .before .before .before .before .before .before .before .before .before .before .before .before .before
+    .loop-test .taken)
+    (step-of _ _ _ _ _ _ _ _ _ _ _ _ _ _ _ _ (c .before .before .before .before .before .before .before .before .before .before .before
+    .before .before .of-at .ensures)
     (record {
       s = _;
       s′ = _;
@@ -47,16 +56,21 @@ returns c =
       programs = refl;
       replays = c .before .before .before .before .before .before .replay .ensures;
       done = c .before .before .before .before .before .done-of .ensures;
-      group = c .before .before .before .before .before .before .before .before .before .before .before .before .before .before .first-of-group .ensures;
+      group = c .before .before .before .before .before .before .before .before .before .before .before .before .before .before
+          .first-of-group .ensures;
       row-is = c .before .row-of .ensures;
     }))
     (c .if1 .taken)
 
 loop-again : tie.Need-loop-again Inv-loop μ-loop
 loop-again c =
-    let h = c .before .before .before .before .before .before .before .before .before .before .before .before .before .before .before .before .loop in
-    judging-next _ _ _ _ _ _ _ (h .k) _ _ _ _ _ _ _ (h .inv) (c .before .before .before .before .before .before .before .before .before .before .before .before .before .before .before .loop-test .taken)
-    (step-of _ _ _ _ _ _ _ _ _ _ _ _ _ _ _ _ (c .before .before .before .before .before .before .before .before .before .before .before .before .before .of-at .ensures)
+    let h = c .before .before .before .before .before .before .before .before .before .before .before .before .before .before .before
+    .before .loop in
+    judging-next _ _ _ _ _ _ _ (h .k) _ _ _ _ _ _ _ (h .inv)
+    (c .before .before .before .before .before .before .before .before .before .before .before .before .before .before .before
+    .loop-test .taken)
+    (step-of _ _ _ _ _ _ _ _ _ _ _ _ _ _ _ _ (c .before .before .before .before .before .before .before .before .before .before .before
+    .before .before .of-at .ensures)
     (record {
       s = _;
       s′ = _;
@@ -71,7 +85,8 @@ loop-again c =
       programs = refl;
       replays = c .before .before .before .before .before .before .replay .ensures;
       done = c .before .before .before .before .before .done-of .ensures;
-      group = c .before .before .before .before .before .before .before .before .before .before .before .before .before .before .first-of-group .ensures;
+      group = c .before .before .before .before .before .before .before .before .before .before .before .before .before .before
+          .first-of-group .ensures;
       row-is = c .before .row-of .ensures;
     }))
     (c .if1 .left)
@@ -101,9 +116,17 @@ judge-requests-spec =
     (λ c. search needs)
     (λ c. search needs)
     row-of-requires
-    (λ c. omega (arith, c .before .before .before .before .before .before .before .before .before .before .before .before .before .before .before .before .loop .inv .few))
+    (λ c. omega (
+      arith,
+      c .before .before .before .before .before .before .before .before .before .before .before .before .before .before
+          .before .before .loop .inv .few,
+    ))
     returns
-    (λ c. omega (arith, c .before .before .before .before .before .before .before .before .before .before .before .before .before .before .before .before .loop .inv .few))
+    (λ c. omega (
+      arith,
+      c .before .before .before .before .before .before .before .before .before .before .before .before .before .before
+          .before .before .loop .inv .few,
+    ))
     (λ c. search needs)
     loop-again
     returns-2)
