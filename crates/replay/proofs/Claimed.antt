@@ -1,7 +1,7 @@
 -- The line that claims an operation, at the objects as the lines above it leave them, and its answer.
-use mathlib.Core.Bool.{Bool, true, false, cond}
+use mathlib.Core.Bool.{true, false, cond}
 use mathlib.Core.List.{List, [], _∷_, _++_}
-use mathlib.Core.Path.{_≡_, refl, sym, ap, subst, fun-ext, _∙_}
+use mathlib.Core.Path.{_≡_, refl, ap, fun-ext, _∙_}
 use Prim.Native.Nat.{ℕ, zero, suc, _+_, _≤_, _<_, min}
 use lib.Dec.{eqb}
 use lib.ListN.{getD, length, drop, List·getD-append}
@@ -18,12 +18,12 @@ use Rattle.ordering.specs.Maps.{upd}
 use Rattle.ordering.proofs.Basics.{byBool}
 use Rattle.model.specs.Batch.{claims}
 use Rattle.model.specs.Machine.{applied}
-use Rattle.model.specs.Replay.{Claim, unclaimed, by, claim, sameOp, compare, wrong, right}
+use Rattle.model.specs.Replay.{Claim, unclaimed, by, claim, sameOp, right}
 use Rattle.model.proofs.Equal.{same-op}
 use Rattle.machine.specs.Logs.{opAt, firstOps, after, answersFrom}
 use Rattle.machine.specs.Objects.{Content, apply, atStart}
 use Rattle.replay.specs.Judges.{machineOf}
-use Rattle.replay.specs.Promises.{FirstFrom, stateAt, contentsAt, answerAt, Answers, answeredAs}
+use Rattle.replay.specs.Promises.{FirstFrom, stateAt, contentsAt, answerAt, Answers}
 use Rattle.replay.specs.declared.claims.Answered.the-variants.{Wrong, Right}
 use Rattle.replay.proofs.Searches.{firsts-front, search-hit, search-none}
 
@@ -75,7 +75,8 @@ ops-firsts f zero = refl
 ops-firsts f (suc n) = ap (λ t. t ++ f n ∷ []) (ops-firsts f n)
 
 answer-at : (line : ℕ → Entry) (n i : ℕ) (c : ℕ → Content) → i < n →
-    getD (answersFrom c (firsts (λ j. line j .op) n)) i 0 ≡ apply (line i .op) (stateAt (λ c l. after c (l .op)) line c i (line i .op .object)) .0
+    getD (answersFrom c (firsts (λ j. line j .op) n)) i 0 ≡ apply (line i .op) (stateAt (λ c l. after c (l .op))
+    line c i (line i .op .object)) .0
 answer-at line zero i c h = absurd (omega arith)
 answer-at line (suc n) zero c h = rw (firsts-front (λ j. line j .op) n)
 answer-at line (suc n) (suc i) c h =

@@ -1,13 +1,12 @@
 -- Row 9 before rows 10 to 12.
 use mathlib.Core.Bool.{Bool, true, false}
 use mathlib.Core.List.{List, _∷_}
-use mathlib.Core.Option.{none, some}
 use mathlib.Core.Path.{_≡_, sym, ap, subst, _∙_}
 use Prim.Native.Nat.{ℕ, min}
 use Rattle.text.specs.declared.programs.Programs.{Programs}
 use Rattle.model.specs.Audit.{row9, replayChecks}
 use Rattle.model.specs.Batch.{Batch}
-use Rattle.model.specs.Checks.{Check, check, firstFault, verdict, breaks}
+use Rattle.model.specs.Checks.{Check, check, firstFault, breaks}
 use Rattle.machine.specs.Objects.{atStart}
 use Rattle.replay.specs.Judges.{batchOf, batchIn, Ready, machineOf, Judges}
 use Rattle.replay.specs.Promises.{JudgesRequests, Returns}

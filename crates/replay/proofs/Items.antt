@@ -1,9 +1,9 @@
 -- The items of a batch in arrays, and that the merge of the arrays is the merge of the batch.
-use mathlib.Core.Bool.{Bool, true, false, cond, not}
-use mathlib.Core.List.{List, [], _∷_, _++_, map, List·Memᴰ}
+use mathlib.Core.Bool.{Bool, true, false, not}
+use mathlib.Core.List.{List, [], _∷_, map}
 use mathlib.Core.Path.{_≡_, refl, sym, ap, subst, _∙_}
 use Prim.Native.Nat.{ℕ, zero, suc, _+_, _-_, _%_, _≤_, _<_, min}
-use borrow.Author.Tests.{ltb-true, ltb-false, lt-ltb, le-ltb, ne-eqb}
+use borrow.Author.Tests.{ltb-true, ltb-false, ne-eqb}
 use lib.Dec.{eqb, ltb}
 use lib.ListN.{getD, set, take, length, length-set, length-take, length-append, List·getD-append}
 use lib.Seq.{getD-set-same, getD-set-other, getD-append-add, getD-take}
@@ -11,28 +11,26 @@ use native.Mathlib.Nat.{mod-eq-of-lt}
 use native.Mathlib.Omega.{arith}
 use Rattle.text.specs.Held.{eventAt, ofAt, entryAt}
 use Rattle.text.specs.Rows.{firsts}
-use Rattle.text.specs.declared.report.Entry.{Entry}
 use Rattle.text.specs.declared.report.Of.{Of}
 use Rattle.text.specs.declared.trace.Event.the-variants.{Request, Response}
 use Rattle.text.specs.declared.trace.Event.{Event}
 use Rattle.text.proofs.RowLaws.{firsts-length}
 use Rattle.ordering.specs.Lists.{All}
-use Rattle.ordering.specs.Order.{mergeAll}
 use Rattle.ordering.specs.Positions.{slot, mergeOf, countsOf}
 use Rattle.ordering.specs.declared.Merged.{Merged}
 use Rattle.ordering.proofs.Basics.{clash, byBool, same-or, eqb-yes, yes-eqb}
-use Rattle.ordering.proofs.Items.{Held, both, merge-items}
+use Rattle.ordering.proofs.Items.{Held, merge-items}
 use Rattle.ordering.proofs.Lists.{mem-all}
-use Rattle.model.specs.Audit.{leftOver, row9}
+use Rattle.model.specs.Audit.{leftOver}
 use Rattle.model.specs.Batch.{Batch, countOf}
 use Rattle.model.specs.Checks.{breaks}
 use Rattle.model.specs.Nodes.{Node, ev, ln, lane, rid, num, nodes}
 use Rattle.model.proofs.Claims.{Counted, Reported, counted-mem, rows-reported}
 use Rattle.model.proofs.Requests.{Named, events-named}
-use Rattle.model.proofs.Trace.{Formed, row4-order, row6-matching}
 use Rattle.replay.specs.Judges.{batchOf, Ready}
 use Rattle.replay.specs.Promises.{FirstFrom, nodeAt, laneIn, numberIn, ItemIs, ItemsTo, Returns}
 use Rattle.replay.proofs.Places.{one-place}
+use Rattle.replay.proofs.Ready.{ready-formed}
 use Rattle.replay.proofs.Searches.{firsts-front, firsts-at, firsts-all, search-hit}
 
 -- ── the item of an event ──
@@ -40,7 +38,8 @@ module _ (ofs : List ℕ) (m : ℕ) (x : Event) (s : ℕ) where
   pub request-item : (q prog a b : ℕ) → x ≡ Request q prog a b → FirstFrom (λ i. eqb (ofAt ofs i .rid) q) 0 m s → ItemIs ofs m (ev x) 0 s 0
   request-item q prog a b e f = subst (λ x. ItemIs ofs m (ev x) 0 s 0) (sym e) (record { lane-is = refl; place = f; number-is = refl })
 
-  pub response-item : (q status value : ℕ) (y : Of) → x ≡ Response q status value → FirstFrom (λ i. eqb (ofAt ofs i .rid) q) 0 m s → y ≡ ofAt ofs s →
+  pub response-item : (q status value : ℕ) (y : Of) → x ≡ Response q status value → FirstFrom (λ i. eqb (ofAt ofs i .rid) q) 0 m s →
+      y ≡ ofAt ofs s →
       ItemIs ofs m (ev x) 0 s (y .count % 65535 + 1)
   response-item q status value y e f d = subst (λ x. ItemIs ofs m (ev x) 0 s (y .count % 65535 + 1)) (sym e)
       (record { lane-is = refl; place = f; number-is = ap (λ y. y .count % 65535 + 1) d })
@@ -118,12 +117,6 @@ module _ (events : List ℕ) (t : ℕ) (ofs : List ℕ) (m : ℕ) (logs : List �
       ∙ map-at ev (eventAt events) t (i - n) none (omega arith)))
 
   module _ (low : t ≤ 128) (few : m ≤ 64) (known : ℕ → Bool) (ready : Ready known batch) where
-    formed : Formed batch
-    formed = record {
-      inOrder = row4-order known (batch .trace) .0 (ready .none-to-8 .0) .0;
-      matching = row6-matching batch .0 (ready .none-to-8 .2);
-    }
-
     reported : Reported batch
     reported = rows-reported batch .0 (ready .none-to-8 .3, ready .none-to-8 .4)
 
@@ -141,7 +134,8 @@ module _ (events : List ℕ) (t : ℕ) (ofs : List ℕ) (m : ℕ) (logs : List �
     -- the count of a request stands in its slot
     slot-count : (r s : ℕ) → FirstFrom (λ i. eqb (ofAt ofs i .rid) r) 0 m s → s < m → countOf (batch .ofs) r ≡ ofAt ofs s .count
     slot-count r s f l =
-        search-hit (λ (c : Unit {0}) xs. countOf xs r) (λ x. eqb (x .rid) r) (λ c x. x .count) (λ c x. c) (λ c x xs. refl) m s (ofAt ofs) tt f l
+        search-hit (λ (c : Unit {0}) xs. countOf xs r) (λ x. eqb (x .rid) r) (λ c x. x .count) (λ c x. c) (λ c x xs. refl) m s (ofAt ofs)
+        tt f l
 
     small : (s : ℕ) → s < m → ofAt ofs s .count ≤ 256
     small s l = firsts-all (λ x. x .count ≤ 256) (ofAt ofs) m s (ready .counts) l
@@ -177,7 +171,8 @@ module _ (events : List ℕ) (t : ℕ) (ofs : List ℕ) (m : ℕ) (logs : List �
         (λ e.
         let l = ltb-false i n e in
         rw e (fine-event (eventAt events (i - n))
-        (firsts-all (λ e. Named batch (rid (ev e))) (eventAt events) t (i - n) (events-named batch formed) (omega arith))))
+        (firsts-all (λ e. Named batch (rid (ev e))) (eventAt events) t (i - n) (events-named batch (ready-formed known batch ready))
+        (omega arith))))
 
     module _ (lanes requests numbers : List ℕ) (h : ItemsTo events ofs m logs n (n + t) lanes requests numbers) where
       abbrev place : ℕ → ℕ
@@ -200,7 +195,8 @@ module _ (events : List ℕ) (t : ℕ) (ofs : List ℕ) (m : ℕ) (logs : List �
         slot-at : slot requests 64 i ≡ place i
         slot-at = mod-eq-of-lt (omega (arith, placed, few))
 
-      held : (front : List ℕ) → front ≡ take (n + t) lanes → Held lane rid (num (countOf (batch .ofs))) (nodes batch) none front requests numbers
+      held : (front : List ℕ) → front ≡ take (n + t) lanes → Held lane rid (num (countOf (batch .ofs))) (nodes batch)
+          none front requests numbers
       held front e = record {
         lane-at = λ i l.
             let w = within i l in
@@ -208,7 +204,8 @@ module _ (events : List ℕ) (t : ℕ) (ofs : List ℕ) (m : ℕ) (logs : List �
             (sym (ap (λ t. getD t i 0) e ∙ getD-take (n + t) lanes i 0 w ∙ is i l .lane-is));
         number-at = λ i l.
             let w = within i l in
-            ap (num (countOf (batch .ofs))) (node-is i w) ∙ fine i w .numbered (place i) (is i l .place) (placed i l) ∙ sym (is i l .number-is);
+            ap (num (countOf (batch .ofs))) (node-is i w) ∙ fine i w .numbered (place i) (is i l .place) (placed i l)
+            ∙ sym (is i l .number-is);
         one-request = λ i j a b p.
             slot-at i a
             ∙ one-place _ m (place i) (place j) (placed-at i a)
@@ -227,7 +224,8 @@ left-breaks (x ∷ xs) f = rw (ne-eqb (suc (length xs)) 0 (λ e. omega arith))
 
 module _ (events : List ℕ) (t : ℕ) (ofs : List ℕ) (m : ℕ) (logs : List ℕ) (n : ℕ) (low : t ≤ 128) (few : m ≤ 64) (fewer : n ≤ 1024)
     (lanes requests numbers : List ℕ) (h : ItemsTo events ofs m logs n (n + t) lanes requests numbers) where
-  pub merge-returns : (front out : List ℕ) → front ≡ take (n + t) lanes → length out ≡ 1152 → (r : Merged) → r ≡ countsOf front requests numbers out →
+  pub merge-returns : (front out : List ℕ) → front ≡ take (n + t) lanes → length out ≡ 1152 → (r : Merged) →
+      r ≡ countsOf front requests numbers out →
       Returns events t ofs m logs n (not (eqb (r .left) 0))
   merge-returns front out e o r c known ready =
       let b = batchOf events t ofs m logs n in

@@ -1,6 +1,6 @@
 -- What the trace and the `of` lines of a batch that is ready say of the request in a slot, and the replay of all requests.
-use mathlib.Core.Bool.{Bool, true, false, cond, _||_}
-use mathlib.Core.List.{List, [], _∷_, _++_, List·Memᴰ, List·Memᴰ·head, List·Memᴰ·tail}
+use mathlib.Core.Bool.{Bool, true, cond}
+use mathlib.Core.List.{List, _∷_, _++_, List·Memᴰ, List·Memᴰ·head, List·Memᴰ·tail}
 use mathlib.Core.Option.{Option, none, some}
 use mathlib.Core.Path.{_≡_, refl, sym, ap, subst, _∙_}
 use Prim.Native.Nat.{ℕ, zero, suc, _+_, _-_, _*_, _%_, _≤_, _<_}
@@ -10,23 +10,21 @@ use lib.ListN.{getD, set, length, length-set}
 use lib.Seq.{getD-set-same, getD-set-other}
 use native.Mathlib.Nat.{mod-eq-of-lt}
 use native.Mathlib.Omega.{arith}
-use Rattle.text.specs.Held.{eventAt, ofAt, entryAt, noProgram}
+use Rattle.text.specs.Held.{eventAt, ofAt, noProgram}
 use Rattle.text.specs.Rows.{firsts}
-use Rattle.text.specs.declared.programs.Instr.{Instr}
 use Rattle.text.specs.declared.programs.Program.{Program}
 use Rattle.text.specs.declared.report.Of.{Of}
 use Rattle.text.specs.declared.trace.Event.the-variants.{Request, Response}
 use Rattle.text.specs.declared.trace.Event.{Event}
 use Rattle.text.proofs.RowLaws.{firsts-same}
-use Rattle.ordering.specs.Lists.{All}
 use Rattle.ordering.proofs.Basics.{clash, byBool, byEq, eqb-self}
 use Rattle.model.specs.Audit.{requestChecks, replayChecks}
 use Rattle.model.specs.Batch.{Batch, answered, firstOf, countOf}
 use Rattle.model.specs.Checks.{Check, firstFault, verdict}
 use Rattle.model.specs.Machine.{Machine}
-use Rattle.model.specs.Replay.{Reply, silent, said, responseOf, requestOf, Outcome, differs, ended, replay, replayFrom, outcome, claim}
+use Rattle.model.specs.Replay.{Reply, silent, said, responseOf, requestOf, Outcome, ended, replay, replayFrom, outcome, claim}
 use Rattle.model.proofs.Requests.{ofs-counted, ofs-asked}
-use Rattle.model.proofs.Trace.{KnownIn, AnsweredIn, Formed, row4-order, row4-answered, row6-matching}
+use Rattle.model.proofs.Trace.{KnownIn, AnsweredIn, row4-order, row4-answered}
 use Rattle.machine.specs.Instance.{Process, codeAt}
 use Rattle.machine.specs.Objects.{atStart}
 use Rattle.machine.specs.Processes.{limit}
@@ -45,11 +43,12 @@ use Rattle.replay.specs.Promises.{
   replyOf,
   JudgesRequests,
 }
-use Rattle.replay.specs.declared.Fault.{Fault}
 use Rattle.replay.specs.declared.replays.Arrival.{Arrival}
 use Rattle.replay.specs.declared.replays.End.{End}
 use Rattle.replay.specs.declared.replays.End.the-variants.{Differs, Ended}
 use Rattle.replay.specs.declared.requests.Said.{Said}
+use Rattle.replay.proofs.Places.{first-before}
+use Rattle.replay.proofs.Ready.{ready-formed}
 use Rattle.replay.proofs.Rows.{checksOf, row-first, row-none, row-some}
 use Rattle.replay.proofs.Searches.{firsts-front, firsts-all, search-hit, search-none}
 
@@ -58,12 +57,6 @@ firsts-mem : {A : Type 0} (f : ℕ → A) (n i : ℕ) → i < n → List·Memᴰ
 firsts-mem f zero i h = absurd (omega arith)
 firsts-mem f (suc n) zero h = rw (firsts-front f n) (List·Memᴰ·head refl)
 firsts-mem f (suc n) (suc i) h = rw (firsts-front f n) (List·Memᴰ·tail (firsts-mem (λ j. f (suc j)) n i (omega arith)))
-
--- a place where the test holds is not above the one found
-pub first-before : (P : ℕ → Bool) (n s k : ℕ) → FirstFrom P 0 n s → k < n → P k ≡ true → s ≤ k
-first-before P n s k f h e = byBool (ltb k s)
-    (λ t. clash (let d = f .skipped k (omega arith) (ltb-true k s t) h in cc))
-    (λ t. ltb-false k s t)
 
 -- ── what is looked up in the trace ──
 module _ (M : Machine) (r : ℕ) where
@@ -113,12 +106,6 @@ module _ (table : List Program) (events : List ℕ) (t : ℕ) (ofs : List ℕ) (
 
   -- ── the request in a slot ──
   module _ (known : ℕ → Bool) (ready : Ready known batch) (k : ℕ) (low : k < m) where
-    formed : Formed batch
-    formed = record {
-      inOrder = row4-order known (batch .trace) .0 (ready .none-to-8 .0) .0;
-      matching = row6-matching batch .0 (ready .none-to-8 .2);
-    }
-
     abbrev r : ℕ
     r = ofAt ofs k .rid
 
@@ -128,9 +115,10 @@ module _ (table : List Program) (events : List ℕ) (t : ℕ) (ofs : List ℕ) (
     module _ (s : ℕ) (f : FirstFrom (λ i. opens r (eventAt events i)) 0 t s) where
       arrived : s < t
       arrived = byBool (ltb s t) (λ h. ltb-true s t h) (λ h. clash
-          (let e = search-none (λ (c : Unit {0}) es. requestOf (machineOf table) es r) (opens r) (λ c e. startFrom (machineOf table) r e) (λ c e. c)
+          (let e = search-none (λ (c : Unit {0}) es. requestOf (machineOf table) es r) (opens r) (λ c e. startFrom (machineOf table) r e)
+          (λ c e. c)
           (request-step (machineOf table) r) t s (eventAt events) tt f (ltb-false s t h) in
-          let a = ofs-asked (machineOf table) batch formed (ofAt ofs k) mem in
+          let a = ofs-asked (machineOf table) batch (ready-formed known batch ready) (ofAt ofs k) mem in
           let d = a .1 in cc))
 
       opened : opens r (eventAt events s) ≡ true
@@ -149,23 +137,27 @@ module _ (table : List Program) (events : List ℕ) (t : ℕ) (ofs : List ℕ) (
             ∙ known-opens known r (eventAt events s) opened
             (firsts-all (KnownIn known) (eventAt events) t s (row4-order known (batch .trace) .0 (ready .none-to-8 .0) .1) arrived))
 
-      module _ (s′ : ℕ) (g : FirstFrom (λ i. closes r (eventAt events i)) 0 t s′) (reply : Said) (e : reply ≡ replyOf (eventAt events s′)) where
-        replied : s′ < t
-        replied = byBool (ltb s′ t) (λ h. ltb-true s′ t h) (λ h. clash
-            (let e = search-none (λ (c : Unit {0}) es. answered r es) (closes r) (λ c e. true) (λ c e. c) (answered-step r) t s′ (eventAt events)
-            tt g (ltb-false s′ t h) in
-            let d = answered-opens (batch .trace) r (eventAt events s) opened
-            (firsts-all (AnsweredIn (batch .trace)) (eventAt events) t s (row4-answered (batch .trace) .0 (ready .none-to-8 .1)) arrived) in cc))
+      module _ (s′ : ℕ) (g : FirstFrom (λ i. closes r (eventAt events i)) 0 t s′) (reply : Said) (e : reply ≡ replyOf (eventAt events s′))
+        where
+          replied : s′ < t
+          replied = byBool (ltb s′ t) (λ h. ltb-true s′ t h) (λ h. clash
+              (let e = search-none (λ (c : Unit {0}) es. answered r es) (closes r) (λ c e. true) (λ c e. c) (answered-step r)
+              t s′ (eventAt events)
+              tt g (ltb-false s′ t h) in
+              let d = answered-opens (batch .trace) r (eventAt events s) opened
+              (firsts-all (AnsweredIn (batch .trace)) (eventAt events) t s (row4-answered (batch .trace) .0 (ready .none-to-8 .1)) arrived)
+              in cc))
 
-        response-is : responseOf (batch .trace) r ≡ said (reply .status) (reply .value)
-        response-is =
-            search-hit (λ (c : Unit {0}) es. responseOf es r) (closes r) (λ c e. replyFrom r e) (λ c e. c) (response-step r) t s′ (eventAt events)
-            tt g replied
-            ∙ reply-closes r (eventAt events s′) (g .found replied .1)
-            ∙ ap (λ x. said (x .status) (x .value)) (sym e)
+          response-is : responseOf (batch .trace) r ≡ said (reply .status) (reply .value)
+          response-is =
+              search-hit (λ (c : Unit {0}) es. responseOf es r) (closes r) (λ c e. replyFrom r e) (λ c e. c) (response-step r)
+              t s′ (eventAt events)
+              tt g replied
+              ∙ reply-closes r (eventAt events s′) (g .found replied .1)
+              ∙ ap (λ x. said (x .status) (x .value)) (sym e)
 
     counted-is : countOf (batch .ofs) r ≡ ofAt ofs k .count
-    counted-is = ofs-counted batch formed (ofAt ofs k) mem
+    counted-is = ofs-counted batch (ready-formed known batch ready) (ofAt ofs k) mem
 
 -- ── all requests ──
 byEnd : {P : Type 0} (e : End) → (e ≡ Differs → P) → ((s v d : ℕ) → e ≡ Ended s v d → P) → P
@@ -173,10 +165,16 @@ byEnd Differs f g = f refl
 byEnd (Ended s v d) f g = g s v d refl
 
 module _ (table : List Program) (events : List ℕ) (t : ℕ) (ofs : List ℕ) (m : ℕ) (logs : List ℕ) (n : ℕ) where
+  abbrev all : Batch
+  all = batchOf events t ofs m logs n
+
+  abbrev outcomes : ℕ → Outcome
+  outcomes k = outcomeAt table events t ofs m logs n k
+
   -- the checks of the requests from slot k on
   abbrev checksFrom : ℕ → List Check
   checksFrom k =
-      replayChecks (machineOf table) atStart (batchOf events t ofs m logs n) (suc k) (firsts (λ i. ofAt ofs (k + i)) (m - k))
+      replayChecks (machineOf table) atStart all (suc k) (firsts (λ i. ofAt ofs (k + i)) (m - k))
 
   -- the requests below slot k broke no row, and their paths are kept
   pub record Judging (progs lengths paths : List ℕ) (k : ℕ) : Type 0 where
@@ -186,10 +184,10 @@ module _ (table : List Program) (events : List ℕ) (t : ℕ) (ofs : List ℕ) (
     pub lengths-room : length lengths ≡ 64
     pub paths-room : length paths ≡ 16384
     pub short : (j : ℕ) → j < k → getD lengths j 0 ≤ 256
-    pub kept : (known : ℕ → Bool) → Ready known (batchOf events t ofs m logs n) → (j : ℕ) → j < k →
-        (reply : Reply) × (outcomeAt table events t ofs m logs n j ≡ ended reply (pathAt progs lengths paths j))
-    pub rest : (known : ℕ → Bool) → Ready known (batchOf events t ofs m logs n) →
-        firstFault (replayChecks (machineOf table) atStart (batchOf events t ofs m logs n) 1 (firsts (ofAt ofs) m)) ≡ firstFault (checksFrom k)
+    pub kept : (known : ℕ → Bool) → Ready known all → (j : ℕ) → j < k →
+        (reply : Reply) × (outcomes j ≡ ended reply (pathAt progs lengths paths j))
+    pub rest : (known : ℕ → Bool) → Ready known all →
+        firstFault (replayChecks (machineOf table) atStart all 1 (firsts (ofAt ofs) m)) ≡ firstFault (checksFrom k)
 
   -- what was looked up and replayed for the request in slot k, and the row that it breaks
   pub record Step (x : Of) (k : ℕ) (progs lengths old paths : List ℕ) (start : Arrival) (d row : ℕ) : Type 0 where
@@ -206,7 +204,7 @@ module _ (table : List Program) (events : List ℕ) (t : ℕ) (ofs : List ℕ) (
     pub programs : program ≡ getD table (start .prog % 16) noProgram
     pub replays : Replays logs n (x .rid) (x .count) (start .a) (start .b) (k * 256) (program .code) old paths end
     pub done : d ≡ doneIn end
-    pub group : FirstFrom (λ i. eqb (ofAt ofs i .group) (x .group)) 0 m f
+    pub group : FirstFrom (λ i. eqb (ofAt ofs i .group) (ofAt ofs k .group)) 0 m f
     pub row-is : row ≡ rowOf (outcomeIn (getD (set progs k (start .prog)) k 0) paths (k * 256) end) (said (reply .status) (reply .value))
         (ended silent (pathAt (set progs k (start .prog)) (set lengths k d) paths f))
 
@@ -216,7 +214,8 @@ module _ (table : List Program) (events : List ℕ) (t : ℕ) (ofs : List ℕ) (
       let o : k + 0 ≡ k = omega arith in
       ap (firsts (λ i. ofAt ofs (k + i))) z ∙ firsts-front (λ i. ofAt ofs (k + i)) (m - (k + 1))
       ∙ (λ i. ofAt ofs (o i)
-      ∷ firsts-same (λ i. ofAt ofs (k + suc i)) (λ i. ofAt ofs (k + 1 + i)) (m - (k + 1)) (λ j _. let e : k + suc j ≡ k + 1 + j = omega arith in ap (ofAt ofs) e) i)
+      ∷ firsts-same (λ i. ofAt ofs (k + suc i)) (λ i. ofAt ofs (k + 1 + i)) (m - (k + 1))
+      (λ j _. let e : k + suc j ≡ k + 1 + j = omega arith in ap (ofAt ofs) e) i)
 
   pub judging-start : (progs lengths paths : List ℕ) → m ≤ 64 → length progs ≡ 64 → length lengths ≡ 64 → length paths ≡ 16384 →
       Judging progs lengths paths 0
@@ -233,7 +232,7 @@ module _ (table : List Program) (events : List ℕ) (t : ℕ) (ofs : List ℕ) (
         let e : firsts (ofAt ofs) m ≡ firsts (λ i. ofAt ofs (0 + i)) (m - 0) =
         firsts-same (ofAt ofs) (λ i. ofAt ofs (0 + i)) m (λ i _. let o : i ≡ 0 + i = omega arith in ap (ofAt ofs) o)
         ∙ ap (firsts (λ i. ofAt ofs (0 + i))) (sym z) in
-        ap (λ xs. firstFault (replayChecks (machineOf table) atStart (batchOf events t ofs m logs n) 1 xs)) e;
+        ap (λ xs. firstFault (replayChecks (machineOf table) atStart all 1 xs)) e;
   }
 
   pub step-of : (x : Of) (k : ℕ) (progs lengths old paths : List ℕ) (start : Arrival) (d row : ℕ) → x ≡ ofAt ofs k →
@@ -241,11 +240,11 @@ module _ (table : List Program) (events : List ℕ) (t : ℕ) (ofs : List ℕ) (
   step-of x k progs lengths old paths start d row e w = subst (λ x. Step x k progs lengths old paths start d row) e w
 
   -- what the row asks for
-  pub row-ready : (x : Of) (k f d e : ℕ) (progs lengths paths : List ℕ) → Judging progs lengths paths k → k < m → x ≡ ofAt ofs k →
-      FirstFrom (λ i. eqb (ofAt ofs i .group) (x .group)) 0 m f → d ≡ e → e ≤ 256 →
+  pub row-ready : (k f d e : ℕ) (progs lengths paths : List ℕ) → Judging progs lengths paths k → k < m →
+      FirstFrom (λ i. eqb (ofAt ofs i .group) (ofAt ofs k .group)) 0 m f → d ≡ e → e ≤ 256 →
       (k < 64) × (f < 64) × (getD (set lengths k d) k 0 ≡ e) × (e ≤ 256)
-  row-ready x k f d e progs lengths paths j low q g p h =
-      let l = first-before (λ i. eqb (ofAt ofs i .group) (x .group)) m f k g low (rw (sym q) (eqb-self (x .group))) in (
+  row-ready k f d e progs lengths paths j low g p h =
+      let l = first-before (λ i. eqb (ofAt ofs i .group) (ofAt ofs k .group)) m f k g low (eqb-self (ofAt ofs k .group)) in (
         omega (arith, j .few),
         omega (arith, j .few),
         getD-set-same lengths k d 0 (omega (arith, j .lengths-room, j .few)) ∙ p,
@@ -279,7 +278,7 @@ module _ (table : List Program) (events : List ℕ) (t : ℕ) (ofs : List ℕ) (
         (λ (a : ℕ). λ (b : a < getD lengths i 0). sym (w .replays .kept (i * 256 + a) (omega (arith, j .short i h)))) in
         (λ a. p a ∷ q a) ∙ ap (λ x. getD progs′ i 0 ∷ pathIn paths (i * 256) x) l
 
-    module _ (known : ℕ → Bool) (ready : Ready known (batchOf events t ofs m logs n)) where
+    module _ (known : ℕ → Bool) (ready : Ready known all) where
       abbrev reply-is : responseOf (firsts (eventAt events) t) (ofAt ofs k .rid) ≡ said (w .reply .status) (w .reply .value)
       reply-is = response-is table events t ofs m logs n known ready k low (w .s) (w .requests) (w .s′) (w .responses) (w .reply) (w .replies)
 
@@ -288,18 +287,17 @@ module _ (table : List Program) (events : List ℕ) (t : ℕ) (ofs : List ℕ) (
           let b = program-below table events t ofs m logs n known ready k low (w .s) (w .requests) start (w .starts) in
           ap (λ i. getD table i noProgram .code) (sym (mod-eq-of-lt b)) ∙ ap (λ p. p .code) (sym (w .programs))
 
-      outcome-is : outcomeAt table events t ofs m logs n k ≡ outcomeIn (start .prog) paths (k * 256) (w .end)
+      outcome-is : outcomes k ≡ outcomeIn (start .prog) paths (k * 256) (w .end)
       outcome-is =
-          let b = batchOf events t ofs m logs n in
           let r = ofAt ofs k .rid in
           let p = machineOf table .start (start .prog) (start .a) (start .b) in
           let c = counted-is table events t ofs m logs n known ready k low in
-          ap (replayFrom (machineOf table) atStart b r)
+          ap (replayFrom (machineOf table) atStart all r)
           (request-is table events t ofs m logs n known ready k low (w .s) (w .requests) start (w .starts))
-          ∙ (λ i. replay (machineOf table) (claim (machineOf table) (b .log) atStart r) (reply-is i) (c i) 1 p (machineOf table .advance p))
+          ∙ (λ i. replay (machineOf table) (claim (machineOf table) (all .log) atStart r) (reply-is i) (c i) 1 p (machineOf table .advance p))
           ∙ sym (w .replays .outcome table (start .prog) (w .reply .status) (w .reply .value) code-is)
 
-      own : (s v e : ℕ) → w .end ≡ Ended s v e → outcomeAt table events t ofs m logs n k ≡ ended (said s v) (pathAt progs′ lengths′ paths k)
+      own : (s v e : ℕ) → w .end ≡ Ended s v e → outcomes k ≡ ended (said s v) (pathAt progs′ lengths′ paths k)
       own s v e q =
           let l : e ≡ getD lengths′ k 0 = sym (length-is ∙ w .done ∙ ap doneIn q) in
           let p : start .prog ≡ getD progs′ k 0 = sym prog-is in
@@ -307,9 +305,9 @@ module _ (table : List Program) (events : List ℕ) (t : ℕ) (ofs : List ℕ) (
           ∙ (λ i. ended (said s v) (p i ∷ pathIn paths (k * 256) (l i)))
 
       kept-more : (s v e : ℕ) → w .end ≡ Ended s v e → (i : ℕ) → i ≤ k →
-          (reply : Reply) × (outcomeAt table events t ofs m logs n i ≡ ended reply (pathAt progs′ lengths′ paths i))
+          (reply : Reply) × (outcomes i ≡ ended reply (pathAt progs′ lengths′ paths i))
       kept-more s v e q i h = byEq i k
-          (λ p _. subst (λ i. (reply : Reply) × (outcomeAt table events t ofs m logs n i ≡ ended reply (pathAt progs′ lengths′ paths i))) (sym p)
+          (λ p _. subst (λ i. (reply : Reply) × (outcomes i ≡ ended reply (pathAt progs′ lengths′ paths i))) (sym p)
           (said s v, own s v e q))
           (λ p _.
           let g = j .kept known ready i (omega arith) in
@@ -318,16 +316,17 @@ module _ (table : List Program) (events : List ℕ) (t : ℕ) (ofs : List ℕ) (
       -- the row that was found is the row of the definitions
       first-is : firstOf (firsts (ofAt ofs) m) (ofAt ofs k .group) ≡ ofAt ofs (w .f) .rid
       first-is =
-          search-hit (λ (c : Unit {0}) xs. firstOf xs (ofAt ofs k .group)) (λ x. eqb (x .group) (ofAt ofs k .group)) (λ c x. x .rid) (λ c x. c)
+          search-hit (λ (c : Unit {0}) xs. firstOf xs (ofAt ofs k .group)) (λ x. eqb (x .group) (ofAt ofs k .group)) (λ c x. x .rid)
+          (λ c x. c)
           (λ c x xs. refl) m (w .f) (ofAt ofs) tt (w .group) (omega (arith, first-low))
 
       abbrev response : Reply
       response = responseOf (firsts (eventAt events) t) (ofAt ofs k .rid)
 
       abbrev firstOutcome : Outcome
-      firstOutcome = outcome (machineOf table) atStart (batchOf events t ofs m logs n) (firstOf (firsts (ofAt ofs) m) (ofAt ofs k .group))
+      firstOutcome = outcome (machineOf table) atStart all (firstOf (firsts (ofAt ofs) m) (ofAt ofs k .group))
 
-      row-real : row ≡ rowOf (outcomeAt table events t ofs m logs n k) response firstOutcome
+      row-real : row ≡ rowOf (outcomes k) response firstOutcome
       row-real = byEnd (w .end)
           (λ q.
           w .row-is ∙ ap (λ e. rowOf (outcomeIn (getD progs′ k 0) paths (k * 256) e) (said (w .reply .status) (w .reply .value))
@@ -335,25 +334,26 @@ module _ (table : List Program) (events : List ℕ) (t : ℕ) (ofs : List ℕ) (
           ∙ sym (ap (λ o. rowOf o response firstOutcome) (outcome-is ∙ ap (outcomeIn (start .prog) paths (k * 256)) q)))
           (λ s v e q.
           let g = kept-more s v e q (w .f) first-low in
-          let o : outcomeIn (getD progs′ k 0) paths (k * 256) (w .end) ≡ outcomeAt table events t ofs m logs n k =
+          let o : outcomeIn (getD progs′ k 0) paths (k * 256) (w .end) ≡ outcomes k =
           ap (λ p. outcomeIn p paths (k * 256) (w .end)) prog-is ∙ sym outcome-is in
           let c : ended (g .0) (pathAt progs′ lengths′ paths (w .f)) ≡ firstOutcome =
-          sym (ap (outcome (machineOf table) atStart (batchOf events t ofs m logs n)) first-is ∙ g .1) in
+          sym (ap (outcome (machineOf table) atStart all) first-is ∙ g .1) in
           let a = sym reply-is in
-          w .row-is ∙ row-first (outcomeIn (getD progs′ k 0) paths (k * 256) (w .end)) (said (w .reply .status) (w .reply .value)) (g .0) (pathAt progs′ lengths′ paths (w .f)) ∙ (λ i. rowOf (o i) (a i) (c i)))
+          w .row-is ∙ row-first (outcomeIn (getD progs′ k 0) paths (k * 256) (w .end)) (said (w .reply .status) (w .reply .value)) (g .0)
+          (pathAt progs′ lengths′ paths (w .f)) ∙ (λ i. rowOf (o i) (a i) (c i)))
 
-      checks-split : checksFrom k ≡ checksOf (outcomeAt table events t ofs m logs n k) response firstOutcome (suc k) (checksFrom (k + 1))
+      checks-split : checksFrom k ≡ checksOf (outcomes k) response firstOutcome (suc k) (checksFrom (k + 1))
       checks-split =
           let e : suc k ≡ k + 1 = omega arith in
-          ap (replayChecks (machineOf table) atStart (batchOf events t ofs m logs n) (suc k)) (split k low)
-          ∙ ap (λ i. requestChecks (machineOf table) atStart (batchOf events t ofs m logs n) (suc k) (ofAt ofs k)
-          ++ replayChecks (machineOf table) atStart (batchOf events t ofs m logs n) (suc i) (firsts (λ i. ofAt ofs (k + 1 + i)) (m - (k + 1)))) e
+          ap (replayChecks (machineOf table) atStart all (suc k)) (split k low)
+          ∙ ap (λ i. requestChecks (machineOf table) atStart all (suc k) (ofAt ofs k)
+          ++ replayChecks (machineOf table) atStart all (suc i) (firsts (λ i. ofAt ofs (k + 1 + i)) (m - (k + 1)))) e
 
     pub judging-stop : (row ≡ 0 → ⊥) → JudgesRequests table events t ofs m logs n (record { row = row; line = k + 1 })
     judging-stop z known ready =
         let e : k + 1 ≡ suc k = omega arith in
         ap (verdict row) e
-        ∙ row-some (outcomeAt table events t ofs m logs n k) (response known ready) (firstOutcome known ready) (suc k) (checksFrom (k + 1)) row (row-real known ready) z
+        ∙ row-some (outcomes k) (response known ready) (firstOutcome known ready) (suc k) (checksFrom (k + 1)) row (row-real known ready) z
         ∙ sym (j .rest known ready ∙ ap firstFault (checks-split known ready))
 
     pub judging-next : row ≡ 0 → Judging progs′ lengths′ paths (k + 1)
@@ -374,7 +374,8 @@ module _ (table : List Program) (events : List ℕ) (t : ℕ) (ofs : List ℕ) (
           (λ s v e q. kept-more known ready s v e q i (omega arith));
       rest = λ known ready.
           j .rest known ready ∙ ap firstFault (checks-split known ready)
-          ∙ row-none (outcomeAt table events t ofs m logs n k) (response known ready) (firstOutcome known ready) (suc k) (checksFrom (k + 1)) (sym (row-real known ready) ∙ z);
+          ∙ row-none (outcomes k) (response known ready) (firstOutcome known ready) (suc k) (checksFrom (k + 1))
+          (sym (row-real known ready) ∙ z);
     }
 
   pub judging-end : (k : ℕ) (progs lengths paths : List ℕ) → Judging progs lengths paths k → m ≤ k →
@@ -382,5 +383,5 @@ module _ (table : List Program) (events : List ℕ) (t : ℕ) (ofs : List ℕ) (
   unfolding firsts
   judging-end k progs lengths paths j h known ready =
       let z : m - k ≡ 0 = omega arith in
-      sym (j .rest known ready ∙ ap (λ i. firstFault (replayChecks (machineOf table) atStart (batchOf events t ofs m logs n) (suc k)
+      sym (j .rest known ready ∙ ap (λ i. firstFault (replayChecks (machineOf table) atStart all (suc k)
       (firsts (λ i. ofAt ofs (k + i)) i))) z)

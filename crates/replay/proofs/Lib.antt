@@ -1,11 +1,17 @@
 -- The laws that the functions' proofs cite.
+-- Lines by their place
 pub mod Places
-pub mod Links
 pub mod Searches
+pub mod Ready
+-- Row 9
+pub mod Items
+-- The log lines that claim operations
+pub mod Links
 pub mod Claimed
+-- Rows 10 to 12
 pub mod Replaying
 pub mod Paths
 pub mod Rows
 pub mod Judging
-pub mod Items
+-- Rows 9 to 12 in their order
 pub mod Faults

@@ -1,7 +1,7 @@
 -- Laws of the log lines linked by request and number: one line more at the front, and the walk down a chain.
-use mathlib.Core.Bool.{Bool, true, false, cond, _&&_}
+use mathlib.Core.Bool.{true, false}
 use mathlib.Core.List.{List}
-use mathlib.Core.Path.{_≡_, refl, sym, ap, subst, _∙_}
+use mathlib.Core.Path.{_≡_, sym, ap, subst, _∙_}
 use Prim.Native.Nat.{ℕ, suc, _-_, _≤_, _<_}
 use borrow.Author.Tests.{ltb-true, ltb-false}
 use lib.Dec.{eqb, ltb}
@@ -9,7 +9,7 @@ use lib.ListN.{getD, set, length, length-set, replicate, getD-replicate}
 use lib.Seq.{getD-set-same, getD-set-other}
 use native.Mathlib.Omega.{arith}
 use Rattle.text.specs.declared.report.Entry.{Entry}
-use Rattle.ordering.proofs.Basics.{clash, byBool, byEq, same-or, and-true, yes-eqb, eqb-yes, eqb-no, no-eqb}
+use Rattle.ordering.proofs.Basics.{byBool, same-or, and-true, yes-eqb, eqb-yes, eqb-no, no-eqb}
 use Rattle.model.specs.Batch.{claims}
 use Rattle.replay.specs.Promises.{FirstFrom, bucketOf, inBucket, Linked}
 
@@ -32,7 +32,8 @@ module _ (line : ℕ → Entry) (n : ℕ) (few : n ≤ 1024) where
     next = λ j a b. absurd (omega arith);
   }
 
-  module _ (i b : ℕ) (heads afters : List ℕ) (low : i < n) (e : b ≡ bucketOf (line i .rid) (line i .num)) (h : Linked line n (suc i) heads afters) where
+  module _ (i b : ℕ) (heads afters : List ℕ) (low : i < n) (e : b ≡ bucketOf (line i .rid) (line i .num)) (h : Linked line n (suc i)
+      heads afters) where
     below : b < 1024
     below = omega arith
 
@@ -84,7 +85,11 @@ module _ (line : ℕ → Entry) (n : ℕ) (few : n ≤ 1024) where
     pub walk-start : (j : ℕ) → j ≡ getD heads (bucketOf r k) 0 → Walking line n r k j
     walk-start j e =
         let f = h .head (bucketOf r k) (omega arith) in
-        subst (Walking line n r k) (sym e) (record { above = λ i l s. other i (f .skipped i (omega arith) l s); bucketed = λ s. f .found s .1 })
+        subst (Walking line n r k) (sym e) (record {
+          above = λ i l s. other i (f .skipped i (omega arith)
+              l s);
+          bucketed = λ s. f .found s .1;
+        })
 
     module _ (j : ℕ) (w : Walking line n r k j) where
       pub walk-hit : claims r k (line j) ≡ true → FirstFrom (λ i. claims r k (line i)) 0 n j
@@ -107,6 +112,7 @@ module _ (line : ℕ → Entry) (n : ℕ) (few : n ≤ 1024) where
         walk-on d = record {
           above = λ i l s. byBool (ltb i j)
               (λ t. w .above i (ltb-true i j t) s)
-              (λ t. same-or (λ i. claims r k (line i) ≡ false) j i d (λ m _. other i (chain .skipped i (omega (arith, ltb-false i j t)) l s)));
+              (λ t. same-or (λ i. claims r k (line i) ≡ false) j i d (λ m _. other i (chain .skipped i (omega (arith, ltb-false i j t))
+              l s)));
           bucketed = λ s. chain .found s .1;
         }

@@ -2,9 +2,8 @@
 use mathlib.Core.Bool.{true, false}
 use mathlib.Core.List.{List}
 use mathlib.Core.Path.{_≡_, sym, ap, _∙_}
-use Prim.Native.Nat.{ℕ, _*_, _+_, _<_}
+use Prim.Native.Nat.{ℕ, _+_, _<_}
 use lib.ListN.{getD, length}
-use Rattle.text.specs.Rows.{firsts}
 use Rattle.text.proofs.RowLaws.{firsts-same, firsts-length}
 use Rattle.ordering.proofs.Basics.{byBool}
 use Rattle.model.specs.Audit.{samePath}

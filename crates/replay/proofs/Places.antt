@@ -1,14 +1,11 @@
--- Laws of scans: a place passed over, the place found, none found; and what is looked up in a list by its structure is what stands at the place
--- that a scan finds.
-use mathlib.Core.Bool.{Bool, true, false, cond}
-use mathlib.Core.List.{List, [], _∷_, _++_}
-use mathlib.Core.Path.{_≡_, refl, sym, ap, _∙_}
-use Prim.Native.Nat.{ℕ, zero, suc, _+_, _-_, _≤_, _<_}
-use lib.ListN.{getD, length}
+-- Laws of scans: a place passed over, the place found, none found.
+use mathlib.Core.Bool.{Bool, true, false}
+use mathlib.Core.Path.{_≡_}
+use Prim.Native.Nat.{ℕ, _-_, _≤_, _<_}
 use native.Mathlib.Omega.{arith}
-use Rattle.text.specs.Rows.{firsts}
-use Rattle.ordering.specs.Lists.{All}
-use Rattle.ordering.proofs.Basics.{clash, byEq}
+use borrow.Author.Tests.{ltb-true, ltb-false}
+use lib.Dec.{ltb}
+use Rattle.ordering.proofs.Basics.{clash, byBool}
 use Rattle.replay.specs.Promises.{FirstFrom}
 
 -- P holds at no place below i
@@ -22,12 +19,12 @@ module _ (P : ℕ → Bool) (i n : ℕ) (h : Passed P i) where
   pub nowhere : n ≤ i → FirstFrom P 0 n n
   nowhere l = record { skipped = λ k _ s _. h k (omega arith); found = λ s. absurd (omega arith) }
 
+-- a place where the test holds is not above the one found
+pub first-before : (P : ℕ → Bool) (n s k : ℕ) → FirstFrom P 0 n s → k < n → P k ≡ true → s ≤ k
+first-before P n s k f h e = byBool (ltb k s)
+    (λ t. clash (let d = f .skipped k (omega arith) (ltb-true k s t) h in cc))
+    (λ t. ltb-false k s t)
+
 -- two scans for the same find the same
 pub one-place : (P : ℕ → Bool) (n s t : ℕ) → FirstFrom P 0 n s → FirstFrom P 0 n t → s < n → t < n → s ≡ t
-one-place P n s t f g a b =
-    let low : s < t → ⊥ = λ l. clash (let d = g .skipped s (omega arith) l a in let e = f .found a .1 in cc) in
-    let high : t < s → ⊥ = λ l. clash (let d = f .skipped t (omega arith) l b in let e = g .found b .1 in cc) in
-    byEq s t (λ p _. p) (λ p _. absurd (⊎-cases s t p low high))
-  where
-    ⊎-cases : (s t : ℕ) → (s ≡ t → ⊥) → (s < t → ⊥) → (t < s → ⊥) → ⊥
-    ⊎-cases s t p l h = h (omega (arith, p, l))
+one-place P n s t f g a b = omega (arith, first-before P n s t f b (g .found b .1), first-before P n t s g a (f .found a .1))

@@ -1,9 +1,8 @@
 -- Laws of one request's replay: what each instruction does to it, and how it ends.
-use mathlib.Core.Bool.{Bool, true, false, cond}
+use mathlib.Core.Bool.{cond}
 use mathlib.Core.List.{List, [], _∷_, _++_, append-nil}
 use mathlib.Core.Path.{_≡_, refl, sym, ap, subst, _∙_}
 use Prim.Native.Nat.{ℕ, zero, suc, _+_, _-_, _%_, _≤_, _<_}
-use borrow.Author.Tests.{eq-eqb, ne-eqb}
 use lib.Dec.{eqb}
 use lib.ListN.{getD, set, length, length-set}
 use lib.Seq.{getD-set-same, getD-set-other}
@@ -21,13 +20,13 @@ use Rattle.model.specs.Replay.{said, Outcome, differs, ended, Answer, wrong, ri
 use Rattle.machine.specs.declared.instructions.Act.{Act}
 use Rattle.machine.specs.declared.instructions.Act.the-variants.{Goes, Asks, Replies}
 use Rattle.machine.specs.declared.processes.Next.the-variants.{Operation, Reply, Cut}
-use Rattle.machine.specs.Instance.{Process, codeAt, gone, nextOf, resumedWith, behindAll}
+use Rattle.machine.specs.Instance.{Process, codeAt, gone, nextOf, resumedWith}
 use Rattle.machine.specs.Instructions.{effect, effectOf}
-use Rattle.machine.specs.Processes.{Advanced, advanced, stopAt, firstLocals, limit, halt, instrAt, go, advanceOf, resumed}
+use Rattle.machine.specs.Processes.{advanced, stopAt, firstLocals, limit, halt, instrAt, go, resumed}
 use Rattle.machine.specs.Objects.{atStart}
 use Rattle.machine.proofs.Turns.{moved, asked, replied}
 use Rattle.replay.specs.Judges.{machineOf}
-use Rattle.replay.specs.Promises.{Answers, answeredAs, pathIn, doneIn, outcomeIn, replayOf, Replays}
+use Rattle.replay.specs.Promises.{Answers, answeredAs, pathIn, replayOf, Replays}
 use Rattle.replay.specs.declared.claims.Answered.{Answered}
 use Rattle.replay.specs.declared.claims.Answered.the-variants.{Wrong, Right}
 use Rattle.replay.specs.declared.replays.End.{End}
@@ -61,7 +60,8 @@ module _ (M : Machine) (f : ℕ → Claim M) (s v : ℕ) where
   alike n k p q h e d = alike-next n k p q (advance p) h e ∙ ap (replay M f (said s v) n k q) d
 
   module _ (k : ℕ) (p : Process) where
-    answered : (n : ℕ) (o : Op) (u : ℕ) → advance p ≡ op o → compare M o (f k) ≡ right u → replays (suc n) k p ≡ replays n (suc k) (resume p u)
+    answered : (n : ℕ) (o : Op) (u : ℕ) → advance p ≡ op o → compare M o (f k) ≡ right u → replays (suc n) k p ≡ replays n (suc k)
+        (resume p u)
     answered n o u e d = rw e (ap (goesOn n k p) d)
 
     unanswered : (n : ℕ) (o : Op) → advance p ≡ op o → compare M o (f k) ≡ wrong → replays (suc n) k p ≡ differs
@@ -106,9 +106,12 @@ module _ (logs : List ℕ) (n rid count base : ℕ) (code : List Instr) (l₀ ol
   abbrev claimed : (table : List Program) → ℕ → Claim (machineOf table)
   claimed table = claim (machineOf table) (firsts (entryAt logs) n) atStart rid
 
+  abbrev replayed : List Program → (s v left k : ℕ) → Process → Outcome
+  replayed table s v left k p = replayOf table logs n rid (said s v) left k p
+
   -- what a replay of program `prog` from the start is
   abbrev Whole : List Program → (prog s v : ℕ) → Outcome
-  Whole table prog s v = replayOf table logs n rid (said s v) count 1 (process prog l₀ 0 0 [])
+  Whole table prog s v = replayed table s v count 1 (process prog l₀ 0 0 [])
 
   pub record Going (l : List ℕ) (at done : ℕ) (paths : List ℕ) (k : ℕ) : Type 0 where
     pub few : done ≤ 256
@@ -118,7 +121,7 @@ module _ (logs : List ℕ) (n rid count base : ℕ) (code : List Instr) (l₀ ol
     pub room : length paths ≡ 16384
     pub kept : (i : ℕ) → i < base → getD paths i 0 ≡ getD old i 0
     pub goes : (table : List Program) (prog s v : ℕ) → codeAt limit table prog ≡ code →
-        replayOf table logs n rid (said s v) (count - k) (suc k) (process prog l at done (pathIn paths base done)) ≡ Whole table prog s v
+        replayed table s v (count - k) (suc k) (process prog l at done (pathIn paths base done)) ≡ Whole table prog s v
 
   pub going-start : base + 256 ≤ 16384 → length old ≡ 16384 → Going l₀ 0 0 old 0
   unfolding firsts
@@ -140,13 +143,14 @@ module _ (logs : List ℕ) (n rid count base : ℕ) (code : List Instr) (l₀ ol
     here prog = process prog l at done (pathIn paths base done)
 
     from-start : (table : List Program) (prog s v : ℕ) → codeAt limit table prog ≡ code → (a b : ℕ) → l₀ ≡ firstLocals a b →
-        replayOf table logs n rid (said s v) (count - k) (suc k) (here prog)
-        ≡ replayOf table logs n rid (said s v) count 1 (machineOf table .start prog a b)
+        replayed table s v (count - k) (suc k) (here prog)
+        ≡ replayed table s v count 1 (machineOf table .start prog a b)
     from-start table prog s v c a b d =
-        g .goes table prog s v c ∙ ap (λ l. replayOf table logs n rid (said s v) count 1 (process prog l 0 0 [])) d
+        g .goes table prog s v c ∙ ap (λ l. replayed table s v count 1 (process prog l 0 0 [])) d
 
     -- a request that stops with status s′ and value v′: the report counts its operations, or not
-    stopping : (paths′ : List ℕ) (done′ s′ v′ : ℕ) {path : List ℕ} → length paths′ ≡ 16384 → ((i : ℕ) → i < base → getD paths′ i 0 ≡ getD old i 0) →
+    stopping : (paths′ : List ℕ) (done′ s′ v′ : ℕ) {path : List ℕ} → length paths′ ≡ 16384 → ((i : ℕ) → i < base →
+        getD paths′ i 0 ≡ getD old i 0) →
         done′ ≤ 256 → pathIn paths′ base done′ ≡ path →
         ((table : List Program) (prog : ℕ) → codeAt limit table prog ≡ code → machineOf table .advance (here prog) ≡ stop s′ v′) →
         ((table : List Program) (prog : ℕ) → codeAt limit table prog ≡ code → machineOf table .pathAtEnd (here prog) ≡ prog ∷ path) →
@@ -212,7 +216,7 @@ module _ (logs : List ℕ) (n rid count base : ℕ) (code : List Instr) (l₀ ol
         room = room-marked;
         kept = kept-marked;
         goes = λ table prog s v d.
-            ap (λ path. replayOf table logs n rid (said s v) (count - k) (suc k) (process prog m to (done + 1) path)) path-marked
+            ap (λ path. replayed table s v (count - k) (suc k) (process prog m to (done + 1) path)) path-marked
             ∙ sym (same-gone table logs n rid s v (count - k) (suc k) (here prog) _ refl
             (moved limit table (here prog) h m to (does table prog (Goes to) d q)))
             ∙ g .goes table prog s v d;
@@ -220,7 +224,7 @@ module _ (logs : List ℕ) (n rid count base : ℕ) (code : List Instr) (l₀ ol
 
       -- a fault at this instruction
       differing : ((table : List Program) (prog s v : ℕ) → codeAt limit table prog ≡ code →
-          replayOf table logs n rid (said s v) (count - k) (suc k) (here prog) ≡ differs) → Ends marked Differs
+          replayed table s v (count - k) (suc k) (here prog) ≡ differs) → Ends marked Differs
       differing f a b d = record {
         room = room-marked;
         kept = kept-marked;
@@ -230,7 +234,8 @@ module _ (logs : List ℕ) (n rid count base : ℕ) (code : List Instr) (l₀ ol
 
       module _ (o : Op) (into : ℕ) (q : x ≡ Asks o into) where
         asks : (table : List Program) (prog : ℕ) → codeAt limit table prog ≡ code →
-            gone limit table (here prog) ≡ advanced m (stopAt (at % 64 + 1) (done + 1) (Operation o into)) (pathIn paths base done ++ (at % 64) ∷ [])
+            gone limit table (here prog) ≡ advanced m (stopAt (at % 64 + 1) (done + 1) (Operation o into))
+            (pathIn paths base done ++ (at % 64) ∷ [])
         asks table prog d = asked limit table (here prog) h m o into (does table prog (Asks o into) d q)
 
         next : (table : List Program) (prog : ℕ) → codeAt limit table prog ≡ code → machineOf table .advance (here prog) ≡ op o
@@ -266,14 +271,14 @@ module _ (logs : List ℕ) (n rid count base : ℕ) (code : List Instr) (l₀ ol
             kept = kept-marked;
             goes = λ table prog s v d.
                 let r = process prog (resumed m into u) (at % 64 + 1) (done + 1) in
-                let a : replayOf table logs n rid (said s v) (count - k) (suc k) (here prog)
-                ≡ replayOf table logs n rid (said s v) (count - (k + 1)) (suc (suc k)) (r (pathIn paths base done ++ (at % 64) ∷ [])) =
+                let a : replayed table s v (count - k) (suc k) (here prog)
+                ≡ replayed table s v (count - (k + 1)) (suc (suc k)) (r (pathIn paths base done ++ (at % 64) ∷ [])) =
                 rw left
                 (answered (machineOf table) (claimed table) s v (suc k) (here prog) (count - (k + 1)) o u (next table prog d)
                 (answer y (Right u) f p table)
-                ∙ ap (λ t. replayOf table logs n rid (said s v) (count - (k + 1)) (suc (suc k)) (resumedWith limit table prog u t))
+                ∙ ap (λ t. replayed table s v (count - (k + 1)) (suc (suc k)) (resumedWith limit table prog u t))
                 (asks table prog d)) in
-                (λ i. replayOf table logs n rid (said s v) (count - (k + 1)) (suc (add-one k i)) (r (path-marked i))) ∙ sym a
+                (λ i. replayed table s v (count - (k + 1)) (suc (add-one k i)) (r (path-marked i))) ∙ sym a
                 ∙ g .goes table prog s v d;
           }
 
@@ -281,7 +286,8 @@ module _ (logs : List ℕ) (n rid count base : ℕ) (code : List Instr) (l₀ ol
       pub going-replied : (u : ℕ) → x ≡ Replies u → (end : End) → end ≡ cond (eqb k count) (Ended 0 u (done + 1)) Differs → Ends marked end
       going-replied u q end c =
           stopping marked (done + 1) 0 u room-marked kept-marked (omega arith) path-marked
-          (λ table prog d. ap (λ t. nextOf (t .stop .next)) (replies table prog d)) (λ table prog d. ap (λ t. prog ∷ t .path) (replies table prog d))
+          (λ table prog d. ap (λ t. nextOf (t .stop .next)) (replies table prog d)) (λ table prog d. ap (λ t. prog ∷ t .path)
+          (replies table prog d))
           end c
         where
           replies : (table : List Program) (prog : ℕ) → codeAt limit table prog ≡ code →

@@ -1,16 +1,14 @@
 -- Laws of rows 10 to 12 of one request.
 use mathlib.Core.Bool.{Bool, true, false, cond, not}
-use mathlib.Core.List.{List, _∷_, _++_}
+use mathlib.Core.List.{List, _∷_}
 use mathlib.Core.Path.{_≡_, refl, sym, ap, _∙_}
-use Prim.Native.Nat.{ℕ, suc, _*_}
+use Prim.Native.Nat.{ℕ}
 use borrow.Author.Tests.{eq-eqb, ne-eqb}
-use lib.Dec.{eqb}
-use lib.ListN.{getD}
 use native.Mathlib.Omega.{arith}
 use Rattle.model.specs.Audit.{bad10, bad11, bad12, samePath}
 use Rattle.model.specs.Checks.{Check, check, firstFault, breaks, verdict}
 use Rattle.model.specs.Replay.{Reply, silent, said, Outcome, differs, ended}
-use Rattle.replay.specs.Promises.{pathIn, doneIn, outcomeIn, rowOf, pathAt}
+use Rattle.replay.specs.Promises.{pathIn, doneIn, outcomeIn, rowOf}
 use Rattle.replay.specs.declared.replays.End.{End}
 use Rattle.replay.specs.declared.replays.End.the-variants.{Differs, Ended}
 

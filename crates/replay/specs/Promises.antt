@@ -1,23 +1,22 @@
 -- What the private functions promise.
 use mathlib.Core.Bool.{Bool, true, false, cond}
-use mathlib.Core.List.{List, [], _∷_}
+use mathlib.Core.List.{List, _∷_}
 use mathlib.Core.Path.{_≡_}
 use Prim.Native.Nat.{ℕ, zero, suc, _+_, _-_, _*_, _%_, _≤_, _<_}
 use lib.Dec.{eqb, ltb}
 use lib.ListN.{getD, length, replicate}
-use Rattle.text.specs.Held.{eventAt, ofAt, entryAt, noProgram}
+use Rattle.text.specs.Held.{eventAt, ofAt, entryAt}
 use Rattle.text.specs.Rows.{firsts}
 use Rattle.text.specs.declared.programs.Instr.{Instr}
 use Rattle.text.specs.declared.programs.Program.{Program}
 use Rattle.text.specs.declared.report.Entry.{Entry}
-use Rattle.text.specs.declared.report.Of.{Of}
 use Rattle.text.specs.declared.report.Op.{Op}
 use Rattle.text.specs.declared.trace.Event.the-variants.{Request, Response}
 use Rattle.text.specs.declared.trace.Event.{Event}
 use Rattle.model.specs.Audit.{bad10, bad11, bad12, replayChecks, row9}
 use Rattle.model.specs.Checks.{verdict, firstFault, breaks}
 use Rattle.model.specs.Nodes.{Node, ev, ln, rid}
-use Rattle.model.specs.Replay.{Reply, silent, said, Outcome, differs, ended, Answer, wrong, right, claim, compare, replay}
+use Rattle.model.specs.Replay.{Reply, said, Outcome, differs, ended, Answer, wrong, right, claim, compare, replay}
 use Rattle.machine.specs.Instance.{Process, codeAt}
 use Rattle.machine.specs.Logs.{after}
 use Rattle.machine.specs.Objects.{Content, apply, atStart}

@@ -2,9 +2,7 @@
 use text::Op;
 use text::entry_at;
 ghost use mathlib.Core.Path.{_≡_};
-ghost use mathlib.Core.Bool.{_&&_};
 ghost use Prim.Native.Nat.{_≤_};
-ghost use lib.Dec.{eqb};
 ghost use lib.ListN.{length, replicate};
 ghost use Rattle.text.specs.Held.{entryAt};
 ghost use Rattle.model.specs.Batch.{claims};

@@ -70,10 +70,12 @@ pub fn slot_of(ofs: &[u64; 192], m: usize, rid: u64) -> usize
     m
 }
 
-// The first `of` line of a group.
-pub fn first_of_group(ofs: &[u64; 192], m: usize, group: u64) -> usize
-    ensures { λ r. ⌜ FirstFrom (λ i. eqb (ofAt (now (ofs .entry)) i .group) group) 0 m r ⌝ }
+// The first `of` line of the group that line k has.
+pub fn first_of_group(ofs: &[u64; 192], m: usize, k: usize) -> usize
+    ensures { λ r. ⌜ FirstFrom (λ i. eqb (ofAt (now (ofs .entry)) i .group) (ofAt (now (ofs .entry)) k .group)) 0 m r ⌝ }
 {
+    let own = of_at(ofs, k);
+    let group = own.group;
     let mut i: usize = 0;
     while i < m {
         let x = of_at(ofs, i);

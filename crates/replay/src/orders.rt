@@ -66,7 +66,8 @@ fn item_at(
     i: usize,
 ) -> Item
     requires { ⌜ m ≤ 64 ⌝ }
-    ensures { λ r. ⌜ ItemIs (now (ofs .entry)) m (nodeAt (now (events .entry)) (now (logs .entry)) n i) (r .lane) (r .request) (r .number) ⌝ }
+    ensures { λ r. ⌜ ItemIs (now (ofs .entry)) m (nodeAt (now (events .entry)) (now (logs .entry)) n i)
+        (r .lane) (r .request) (r .number) ⌝ }
 {
     if i < n {
         line_item(ofs, m, entry_at(logs, i))
@@ -87,8 +88,10 @@ fn put_items(
     request: &mut [u8; 1152],
     number: &mut [u16; 1152],
 )
-    requires { ⌜ (t ≤ 128) × (m ≤ 64) × (n ≤ 1024) × (length (now lane) ≡ 1152) × (length (now request) ≡ 1152) × (length (now number) ≡ 1152) ⌝ }
-    ensures { λ _. ⌜ ItemsTo (now (events .entry)) (now (ofs .entry)) m (now (logs .entry)) n (n + t) (now (lane .exit)) (now (request .exit)) (now (number .exit)) ⌝ }
+    requires { ⌜ (t ≤ 128) × (m ≤ 64) × (n ≤ 1024)
+        × (length (now lane) ≡ 1152) × (length (now request) ≡ 1152) × (length (now number) ≡ 1152) ⌝ }
+    ensures { λ _. ⌜ ItemsTo (now (events .entry)) (now (ofs .entry)) m (now (logs .entry)) n (n + t)
+        (now (lane .exit)) (now (request .exit)) (now (number .exit)) ⌝ }
 {
     let mut i: usize = 0;
     while i < n + t {

@@ -54,7 +54,8 @@ pub fn replay(
     paths: &mut [u8; 16384],
 ) -> End
     requires { ⌜ (slot < 64) × (length (now paths) ≡ 16384) × Prepared (now logs) n (now heads) (now afters) (now answers) ⌝ }
-    ensures { λ r. ⌜ Replays (now (logs .entry)) n (x .rid) (x .count) (start .a) (start .b) (slot * 256) (p .code) (now (paths .entry)) (now (paths .exit)) r ⌝ }
+    ensures { λ r. ⌜ Replays (now (logs .entry)) n (x .rid) (x .count) (start .a) (start .b) (slot * 256)
+        (p .code) (now (paths .entry)) (now (paths .exit)) r ⌝ }
 {
     let mut l = first_locals(start.a, start.b);
     let rid = x.rid;

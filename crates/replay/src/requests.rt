@@ -12,7 +12,7 @@ use text::event_at;
 use text::of_at;
 ghost use mathlib.Core.Path.{_≡_};
 ghost use Prim.Native.Nat.{_*_, _≤_, _<_};
-ghost use lib.ListN.{getD, length};
+ghost use lib.ListN.{getD};
 ghost use Rattle.text.specs.Held.{eventAt};
 ghost use Rattle.model.specs.Audit.{samePath};
 ghost use Rattle.model.specs.Replay.{silent, said, ended};
@@ -86,7 +86,8 @@ fn same_path(paths: &[u8; 16384], j: usize, k: usize, done: usize) -> bool
 // The path kept for the request in slot k is that of the one in slot f.
 fn along(progs: &[u64; 64], lengths: &[usize; 64], paths: &[u8; 16384], k: usize, f: usize) -> bool
     requires { ⌜ (k < 64) × (f < 64) × (getD (now lengths) k 0 ≤ 256) ⌝ }
-    ensures { λ r. ⌜ r ≡ samePath (pathAt (now (progs .entry)) (now (lengths .entry)) (now (paths .entry)) k) (pathAt (now (progs .entry)) (now (lengths .entry)) (now (paths .entry)) f) ⌝ }
+    ensures { λ r. ⌜ r ≡ samePath (pathAt (now (progs .entry)) (now (lengths .entry)) (now (paths .entry)) k)
+        (pathAt (now (progs .entry)) (now (lengths .entry)) (now (paths .entry)) f) ⌝ }
 {
     if progs[k] != progs[f] {
         return false;
@@ -109,7 +110,8 @@ fn row_of(
     f: usize,
 ) -> u64
     requires { ⌜ (k < 64) × (f < 64) × (getD (now lengths) k 0 ≡ doneIn end) × (doneIn end ≤ 256) ⌝ }
-    ensures { λ r. ⌜ r ≡ rowOf (outcomeIn (getD (now (progs .entry)) k 0) (now (paths .entry)) (k * 256) end) (said (reply .status) (reply .value)) (ended silent (pathAt (now (progs .entry)) (now (lengths .entry)) (now (paths .entry)) f)) ⌝ }
+    ensures { λ r. ⌜ r ≡ rowOf (outcomeIn (getD (now (progs .entry)) k 0) (now (paths .entry)) (k * 256) end)
+        (said (reply .status) (reply .value)) (ended silent (pathAt (now (progs .entry)) (now (lengths .entry)) (now (paths .entry)) f)) ⌝ }
 {
     match end {
         End::Differs => 10,
@@ -150,6 +152,7 @@ pub fn judge_requests(
     let mut progs = [0u64; 64];
     let mut k: usize = 0;
     while k < m {
+        let f = first_of_group(ofs, m, k);
         let x = of_at(ofs, k);
         let start = arrival_at(events, request_at(events, t, x.rid));
         let reply = reply_at(events, response_at(events, t, x.rid));
@@ -158,7 +161,6 @@ pub fn judge_requests(
         let end = replay(p, start, x, k, logs, n, heads, afters, answers, &mut paths);
         progs[k] = prog;
         lengths[k] = done_of(end);
-        let f = first_of_group(ofs, m, x.group);
         let row = row_of(end, reply, &progs, &lengths, &paths, k, f);
         if row != 0 {
             return Fault {

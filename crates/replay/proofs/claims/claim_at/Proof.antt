@@ -1,5 +1,5 @@
 -- `claim_at` meets its contract. The invariant: no line above j claims the operation, and line j is in its bucket.
-use mathlib.Core.Path.{_≡_, sym, ap, _∙_}
+use mathlib.Core.Path.{sym, ap, _∙_}
 use Prim.Native.Nat.{_-_}
 use native.Mathlib.Omega.{arith}
 use lib.ListN.{getD}

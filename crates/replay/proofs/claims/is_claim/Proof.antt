@@ -1,8 +1,7 @@
 -- `is_claim` meets its contract.
-use mathlib.Core.Path.{_≡_, sym, ap, _∙_}
+use mathlib.Core.Path.{sym}
 use borrow.Author.Needs.{needs}
 use borrow.Author.Tests.{eq-eqb, ne-eqb}
-use Rattle.model.specs.Batch.{claims}
 use Rattle.replay.proofs.claims.is_claim.Statement.{statement}
 use Rattle.replay.proofs.claims.is_claim.Tie as tie
 

@@ -1,5 +1,5 @@
 -- `first_of_group` meets its contract. The invariant: the lines passed are not of the group.
-use mathlib.Core.Path.{_≡_, sym}
+use mathlib.Core.Path.{sym}
 use Prim.Native.Nat.{_-_, _≤_}
 use native.Mathlib.Omega.{arith}
 use lib.Dec.{eqb}
@@ -12,29 +12,41 @@ use Rattle.replay.proofs.lookups.first_of_group.Statement.{statement}
 use Rattle.replay.proofs.lookups.first_of_group.Tie as tie
 
 abbrev Inv-loop : tie.InvT-loop
-Inv-loop ofs m group i₀ i = (i ≤ m) × Passed (λ i. eqb (ofAt ofs i .group) group) i
+Inv-loop ofs m k group i₀ i = (i ≤ m) × Passed (λ i. eqb (ofAt ofs i .group) group) i
 
 abbrev μ-loop : tie.MeasureT-loop
-μ-loop ofs m group i₀ i = m - i
+μ-loop ofs m k group i₀ i = m - i
 
 loop-holds : tie.Need-loop-holds Inv-loop μ-loop
 loop-holds c = (omega arith, λ k h. absurd (omega arith))
 
 returns : tie.Need-returns Inv-loop μ-loop
-returns c = here _ _ _ (c .before .before .before .before .loop .inv .1)
-    (rw (sym (c .before .before .of-at .ensures)) (eq-eqb _ _ (c .if1 .taken)))
+returns c =
+    rw (sym (c .before .before .before .before .before .of-at .ensures))
+    (here _ _ _ (c .before .before .before .before .loop .inv .1) (rw (sym (c .before .before .of-at2 .ensures))
+    (eq-eqb _ _ (c .if1 .taken))))
 
 loop-again : tie.Need-loop-again Inv-loop μ-loop
 loop-again c = (
   omega arith,
   below-more _ _ (c .before .before .before .before .loop .inv .1)
-      (rw (sym (c .before .before .of-at .ensures)) (ne-eqb _ _ (c .if1 .left))),
+      (rw (sym (c .before .before .of-at2 .ensures)) (ne-eqb _ _ (c .if1 .left))),
 )
 
 returns-2 : tie.Need-returns-2 Inv-loop μ-loop
-returns-2 c = nowhere _ _ _ (c .before .loop .inv .1) (omega arith)
+returns-2 c = rw (sym (c .before .before .of-at .ensures)) (nowhere _ _ _ (c .before .loop .inv .1) (omega arith))
 
 pub first-of-group-spec : {M : Type 1} → statement M
 first-of-group-spec =
     tie.close
-    (tie.spec Inv-loop μ-loop loop-holds (λ c κs. search needs) returns (λ c. search needs) (λ c. search needs) loop-again returns-2)
+    (tie.spec
+    Inv-loop
+    μ-loop
+    (λ c κs. search needs)
+    loop-holds
+    (λ c κs. search needs)
+    returns
+    (λ c. search needs)
+    (λ c. search needs)
+    loop-again
+    returns-2)

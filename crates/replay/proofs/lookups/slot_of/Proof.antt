@@ -1,5 +1,5 @@
 -- `slot_of` meets its contract. The invariant: the lines passed are not of the request.
-use mathlib.Core.Path.{_≡_, sym}
+use mathlib.Core.Path.{sym}
 use Prim.Native.Nat.{_-_, _≤_}
 use native.Mathlib.Omega.{arith}
 use lib.Dec.{eqb}

@@ -1,6 +1,5 @@
 -- `line_item` meets its contract.
 use mathlib.Core.Path.{refl}
-use native.Mathlib.Omega.{arith}
 use borrow.Author.Needs.{needs}
 use Rattle.replay.proofs.orders.line_item.Statement.{statement}
 use Rattle.replay.proofs.orders.line_item.Tie as tie

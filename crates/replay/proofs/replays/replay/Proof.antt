@@ -1,5 +1,4 @@
 -- `replay` meets its contract. The invariant: the definition at where the request stands gives what it gives at the start.
-use mathlib.Core.Path.{_≡_, sym, ap, _∙_}
 use Prim.Native.Nat.{_-_}
 use native.Mathlib.Omega.{arith}
 use borrow.Author.Needs.{needs}
@@ -20,33 +19,46 @@ loop-holds c = going-start _ _ _ _ _ _ _ _ (omega arith) (c .before .pre .1)
 loop-again : tie.Need-loop-again Inv-loop μ-loop
 loop-again c =
     let h = c .before .before .before .before .before .before .before .loop in
-    going-moved _ _ _ _ _ _ _ _ _ _ _ _ _ (h .inv) (c .before .before .before .before .before .before .loop-test .taken) _ _ (c .before .before .before .carry-out .ensures)
+    going-moved _ _ _ _ _ _ _ _ _ _ _ _ _ (h .inv) (c .before .before .before .before .before .before .loop-test .taken)
+    _ _ (c .before .before .before .carry-out .ensures)
     _ (c .before .to .given .1)
 
 returns : tie.Need-returns Inv-loop μ-loop
 returns c =
     let h = c .before .before .before .before .before .before .before .before .loop in
-    going-over _ _ _ _ _ _ _ _ _ _ _ _ _ (h .inv) (c .before .before .before .before .before .before .before .loop-test .taken) _ _ (c .before .before .before .before .carry-out .ensures)
-    _ _ (c .before .before .o .given .1) (c .if1 .taken) _ _ (c .before .before .before .before .before .before .before .before .before .first-locals .ensures)
+    going-over _ _ _ _ _ _ _ _ _ _ _ _ _ (h .inv) (c .before .before .before .before .before .before .before .loop-test .taken)
+    _ _ (c .before .before .before .before .carry-out .ensures)
+    _ _ (c .before .before .o .given .1) (c .if1 .taken)
+    _ _ (c .before .before .before .before .before .before .before .before .before .first-locals .ensures)
 
 returns-2 : tie.Need-returns-2 Inv-loop μ-loop
 returns-2 c =
     let h = c .before .before .before .before .before .before .before .before .before .before .before .loop in
-    going-wrong _ _ _ _ _ _ _ _ _ _ _ _ _ (h .inv) (c .before .before .before .before .before .before .before .before .before .before .loop-test .taken) _ _ (c .before .before .before .before .before .before .before .carry-out .ensures)
-    _ _ (c .before .before .before .before .before .o .given .1) (c .before .before .before .if1 .left) _ (c .before .before .answer-of .ensures) (c .enum-told .given .1) _ _ (c .before .before .before .before .before .before .before .before .before .before .before .before .first-locals .ensures)
+    going-wrong _ _ _ _ _ _ _ _ _ _ _ _ _ (h .inv)
+    (c .before .before .before .before .before .before .before .before .before .before .loop-test .taken)
+    _ _ (c .before .before .before .before .before .before .before .carry-out .ensures)
+    _ _ (c .before .before .before .before .before .o .given .1) (c .before .before .before .if1 .left)
+    _ (c .before .before .answer-of .ensures) (c .enum-told .given .1)
+    _ _ (c .before .before .before .before .before .before .before .before .before .before .before .before .first-locals .ensures)
 
 loop-again-2 : tie.Need-loop-again-2 Inv-loop μ-loop
 loop-again-2 c =
     let h = c .before .before .before .before .before .before .before .before .before .before .before .before .before .before .loop in
     rw (c .resume .ensures)
-    (going-right _ _ _ _ _ _ _ _ _ _ _ _ _ (h .inv) (c .before .before .before .before .before .before .before .before .before .before .before .before .before .loop-test .taken) _ _ (c .before .before .before .before .before .before .before .before .before .before .carry-out .ensures)
-    _ _ (c .before .before .before .before .before .before .before .before .o .given .1) (c .before .before .before .before .before .before .if1 .left) _ _ (c .before .before .before .before .before .answer-of .ensures) (c .before .before .before .v .given .1))
+    (going-right _ _ _ _ _ _ _ _ _ _ _ _ _ (h .inv)
+    (c .before .before .before .before .before .before .before .before .before .before .before .before .before .loop-test .taken)
+    _ _ (c .before .before .before .before .before .before .before .before .before .before .carry-out .ensures)
+    _ _ (c .before .before .before .before .before .before .before .before .o .given .1)
+    (c .before .before .before .before .before .before .if1 .left) _ _ (c .before .before .before .before .before .answer-of .ensures)
+    (c .before .before .before .v .given .1))
 
 returns-3 : tie.Need-returns-3 Inv-loop μ-loop
 returns-3 c =
     let h = c .before .before .before .before .before .before .before .before .loop in
-    going-replied _ _ _ _ _ _ _ _ _ _ _ _ _ (h .inv) (c .before .before .before .before .before .before .before .loop-test .taken) _ _ (c .before .before .before .before .carry-out .ensures)
-    _ (c .before .before .v2 .given .1) _ (c .stopped .ensures) _ _ (c .before .before .before .before .before .before .before .before .before .first-locals .ensures)
+    going-replied _ _ _ _ _ _ _ _ _ _ _ _ _ (h .inv) (c .before .before .before .before .before .before .before .loop-test .taken)
+    _ _ (c .before .before .before .before .carry-out .ensures)
+    _ (c .before .before .v2 .given .1) _ (c .stopped .ensures)
+    _ _ (c .before .before .before .before .before .before .before .before .before .first-locals .ensures)
 
 returns-4 : tie.Need-returns-4 Inv-loop μ-loop
 returns-4 c =

@@ -1,9 +1,8 @@
 -- `judge_requests` meets its contract. The invariant: the requests below slot k broke no row, and their paths are kept.
-use mathlib.Core.Path.{_≡_, refl, sym, subst, _∙_}
+use mathlib.Core.Path.{refl}
 use Prim.Native.Nat.{_-_}
 use native.Mathlib.Omega.{arith}
 use borrow.Author.Needs.{needs}
-use Rattle.text.specs.Held.{ofAt}
 use Rattle.replay.proofs.Judging.{Judging, step-of, row-ready, judging-start, judging-next, judging-stop, judging-end}
 use Rattle.replay.proofs.requests.judge_requests.Statement.{statement}
 use Rattle.replay.proofs.requests.judge_requests.Tie as tie
@@ -20,20 +19,29 @@ loop-holds c = judging-start _ _ _ _ _ _ _ _ _ _ (c .pre .0) refl refl refl
 
 replay-requires : tie.Need-replay-requires Inv-loop μ-loop
 replay-requires c κs =
-    let h = c .before .before .before .before .before .before .before .before .loop in
-    (omega (arith, h .inv .few), h .inv .paths-room, c .before .before .before .before .before .before .before .before .before .pre .1)
+    let h = c .before .before .before .before .before .before .before .before .before .loop in (
+      omega (arith, h .inv .few),
+      h .inv .paths-room,
+      c .before .before .before .before .before .before .before .before .before .before .pre .1,
+    )
 
 row-of-requires : tie.Need-row-of-requires Inv-loop μ-loop
 row-of-requires c κs =
     let h = c .before .before .before .before .before .before .before .before .before .before .before .before .before .before .loop in
-    row-ready _ _ _ _ _ _ _ _ _ _ _ _ _ _ _ (h .inv) (c .before .before .before .before .before .before .before .before .before .before .before .before .before .loop-test .taken) (c .before .before .before .before .before .before .before .before .before .before .before .before .of-at .ensures)
-    (c .before .before .before .first-of-group .ensures) (c .before .before .before .before .done-of .ensures) (c .before .before .before .before .before .replay .ensures .few)
+    row-ready _ _ _ _ _ _ _ _ _ _ _ _ _ _ (h .inv)
+    (c .before .before .before .before .before .before .before .before .before .before .before .before .before .loop-test .taken)
+    (c .before .before .before .before .before .before .before .before .before .before .before .before .first-of-group .ensures)
+    (c .before .before .before .done-of .ensures) (c .before .before .before .before .replay .ensures .few)
 
 returns : tie.Need-returns Inv-loop μ-loop
 returns c =
-    let h = c .before .before .before .before .before .before .before .before .before .before .before .before .before .before .before .before .loop in
-    judging-stop _ _ _ _ _ _ _ (h .k) _ _ _ _ _ _ _ (h .inv) (c .before .before .before .before .before .before .before .before .before .before .before .before .before .before .before .loop-test .taken)
-    (step-of _ _ _ _ _ _ _ _ _ _ _ _ _ _ _ _ (c .before .before .before .before .before .before .before .before .before .before .before .before .before .before .of-at .ensures)
+    let h = c .before .before .before .before .before .before .before .before .before .before .before .before .before .before .before
+    .before .loop in
+    judging-stop _ _ _ _ _ _ _ (h .k) _ _ _ _ _ _ _ (h .inv)
+    (c .before .before .before .before .before .before .before .before .before .before .before .before .before .before .before
+    .loop-test .taken)
+    (step-of _ _ _ _ _ _ _ _ _ _ _ _ _ _ _ _ (c .before .before .before .before .before .before .before .before .before .before .before
+    .before .before .of-at .ensures)
     (record {
       s = _;
       s′ = _;
@@ -41,23 +49,28 @@ returns c =
       reply = _;
       program = _;
       end = _;
-      requests = c .before .before .before .before .before .before .before .before .before .before .before .before .before .request-at .ensures;
-      starts = c .before .before .before .before .before .before .before .before .before .before .before .before .arrival-at .ensures;
-      responses = c .before .before .before .before .before .before .before .before .before .before .before .response-at .ensures;
-      replies = c .before .before .before .before .before .before .before .before .before .before .reply-at .ensures;
+      requests = c .before .before .before .before .before .before .before .before .before .before .before .before .request-at .ensures;
+      starts = c .before .before .before .before .before .before .before .before .before .before .before .arrival-at .ensures;
+      responses = c .before .before .before .before .before .before .before .before .before .before .response-at .ensures;
+      replies = c .before .before .before .before .before .before .before .before .before .reply-at .ensures;
       programs = refl;
-      replays = c .before .before .before .before .before .before .before .replay .ensures;
-      done = c .before .before .before .before .before .before .done-of .ensures;
-      group = c .before .before .before .before .before .first-of-group .ensures;
+      replays = c .before .before .before .before .before .before .replay .ensures;
+      done = c .before .before .before .before .before .done-of .ensures;
+      group = c .before .before .before .before .before .before .before .before .before .before .before .before .before .before
+          .first-of-group .ensures;
       row-is = c .before .row-of .ensures;
     }))
     (c .if1 .taken)
 
 loop-again : tie.Need-loop-again Inv-loop μ-loop
 loop-again c =
-    let h = c .before .before .before .before .before .before .before .before .before .before .before .before .before .before .before .before .loop in
-    judging-next _ _ _ _ _ _ _ (h .k) _ _ _ _ _ _ _ (h .inv) (c .before .before .before .before .before .before .before .before .before .before .before .before .before .before .before .loop-test .taken)
-    (step-of _ _ _ _ _ _ _ _ _ _ _ _ _ _ _ _ (c .before .before .before .before .before .before .before .before .before .before .before .before .before .before .of-at .ensures)
+    let h = c .before .before .before .before .before .before .before .before .before .before .before .before .before .before .before
+    .before .loop in
+    judging-next _ _ _ _ _ _ _ (h .k) _ _ _ _ _ _ _ (h .inv)
+    (c .before .before .before .before .before .before .before .before .before .before .before .before .before .before .before
+    .loop-test .taken)
+    (step-of _ _ _ _ _ _ _ _ _ _ _ _ _ _ _ _ (c .before .before .before .before .before .before .before .before .before .before .before
+    .before .before .of-at .ensures)
     (record {
       s = _;
       s′ = _;
@@ -65,14 +78,15 @@ loop-again c =
       reply = _;
       program = _;
       end = _;
-      requests = c .before .before .before .before .before .before .before .before .before .before .before .before .before .request-at .ensures;
-      starts = c .before .before .before .before .before .before .before .before .before .before .before .before .arrival-at .ensures;
-      responses = c .before .before .before .before .before .before .before .before .before .before .before .response-at .ensures;
-      replies = c .before .before .before .before .before .before .before .before .before .before .reply-at .ensures;
+      requests = c .before .before .before .before .before .before .before .before .before .before .before .before .request-at .ensures;
+      starts = c .before .before .before .before .before .before .before .before .before .before .before .arrival-at .ensures;
+      responses = c .before .before .before .before .before .before .before .before .before .before .response-at .ensures;
+      replies = c .before .before .before .before .before .before .before .before .before .reply-at .ensures;
       programs = refl;
-      replays = c .before .before .before .before .before .before .before .replay .ensures;
-      done = c .before .before .before .before .before .before .done-of .ensures;
-      group = c .before .before .before .before .before .first-of-group .ensures;
+      replays = c .before .before .before .before .before .before .replay .ensures;
+      done = c .before .before .before .before .before .done-of .ensures;
+      group = c .before .before .before .before .before .before .before .before .before .before .before .before .before .before
+          .first-of-group .ensures;
       row-is = c .before .row-of .ensures;
     }))
     (c .if1 .left)
@@ -92,6 +106,7 @@ judge-requests-spec =
     (λ c κs. search needs)
     (λ c κs. search needs)
     (λ c κs. search needs)
+    (λ c κs. search needs)
     (λ c. search needs)
     (λ c. search needs)
     replay-requires
@@ -100,11 +115,18 @@ judge-requests-spec =
     (λ c κs. search needs)
     (λ c. search needs)
     (λ c. search needs)
-    (λ c κs. search needs)
     row-of-requires
-    (λ c. omega (arith, c .before .before .before .before .before .before .before .before .before .before .before .before .before .before .before .before .loop .inv .few))
+    (λ c. omega (
+      arith,
+      c .before .before .before .before .before .before .before .before .before .before .before .before .before .before
+          .before .before .loop .inv .few,
+    ))
     returns
-    (λ c. omega (arith, c .before .before .before .before .before .before .before .before .before .before .before .before .before .before .before .before .loop .inv .few))
+    (λ c. omega (
+      arith,
+      c .before .before .before .before .before .before .before .before .before .before .before .before .before .before
+          .before .before .loop .inv .few,
+    ))
     (λ c. search needs)
     loop-again
     returns-2)

@@ -1,8 +1,8 @@
 -- `row_of` meets its contract.
-use mathlib.Core.Path.{_≡_, sym, ap, _∙_}
+use mathlib.Core.Path.{sym, ap, _∙_}
 use borrow.Author.Needs.{needs}
 use native.Mathlib.Omega.{arith}
-use mathlib.Core.Bool.{true, false, cond}
+use mathlib.Core.Bool.{cond}
 use Rattle.replay.proofs.Rows.{row-differs, row-status, row-value, row-path}
 use Rattle.replay.proofs.requests.row_of.Statement.{statement}
 use Rattle.replay.proofs.requests.row_of.Tie as tie
@@ -11,7 +11,8 @@ returns : tie.Need-returns
 returns c = row-status _ _ _ _ _ _ _ (c .before .before .before .end .given .1) _ _ _ (c .if1 .taken)
 
 returns-2 : tie.Need-returns-2
-returns-2 c = row-value _ _ _ _ _ _ _ (c .before .before .before .before .before .end .given .1) _ _ _ (c .before .before .if1 .left) (c .if2 .taken)
+returns-2 c = row-value _ _ _ _ _ _ _ (c .before .before .before .before .before .end .given .1) _ _ _ (c .before .before .if1 .left)
+    (c .if2 .taken)
 
 along-requires : tie.Need-along-requires
 along-requires c κs = let p = c .before .before .before .before .before .before .before .pre in (p .0, p .1, omega (arith, p .2, p .3))
@@ -22,13 +23,17 @@ returns-3 c = row-differs _ _ _ _ (c .enum-told .given .1) _ _
 returns-4 : tie.Need-returns-4
 returns-4 c =
     ap (λ b. cond b 0 12) (sym (c .if3 .taken))
-    ∙ row-path _ _ _ _ _ _ _ (c .before .before .before .before .before .before .before .end .given .1) _ _ _ (c .before .before .before .before .if1 .left) (c .before .before .if2 .left) _ (c .before .before .before .before .before .before .before .before .before .pre .2) _
+    ∙ row-path _ _ _ _ _ _ _ (c .before .before .before .before .before .before .before .end .given .1)
+    _ _ _ (c .before .before .before .before .if1 .left) (c .before .before .if2 .left)
+    _ (c .before .before .before .before .before .before .before .before .before .pre .2) _
     (c .before .along .ensures)
 
 returns-5 : tie.Need-returns-5
 returns-5 c =
     ap (λ b. cond b 0 12) (sym (c .if3 .left))
-    ∙ row-path _ _ _ _ _ _ _ (c .before .before .before .before .before .before .before .end .given .1) _ _ _ (c .before .before .before .before .if1 .left) (c .before .before .if2 .left) _ (c .before .before .before .before .before .before .before .before .before .pre .2) _
+    ∙ row-path _ _ _ _ _ _ _ (c .before .before .before .before .before .before .before .end .given .1)
+    _ _ _ (c .before .before .before .before .if1 .left) (c .before .before .if2 .left)
+    _ (c .before .before .before .before .before .before .before .before .before .pre .2) _
     (c .before .along .ensures)
 
 pub row-of-spec : {M : Type 1} → statement M

@@ -23,7 +23,8 @@ returns : tie.Need-returns Inv-loop μ-loop
 returns c =
     let h = c .before .before .before .before in
     let a = h .before .args in
-    paths-differ (a .paths .now) (a .j * 256) (a .k * 256) (a .done) (h .loop .i) (c .before .before .before .loop-test .taken) (c .if1 .taken)
+    paths-differ (a .paths .now) (a .j * 256) (a .k * 256) (a .done) (h .loop .i) (c .before .before .before .loop-test .taken)
+    (c .if1 .taken)
 
 loop-again : tie.Need-loop-again Inv-loop μ-loop
 loop-again c =
