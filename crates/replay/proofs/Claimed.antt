@@ -1,6 +1,6 @@
 -- The line that claims an operation, at the objects as the lines above it leave them, and its answer.
 use mathlib.Core.Bool.{true, false, cond}
-use mathlib.Core.List.{List, [], _∷_, _++_}
+use mathlib.Core.List.{List, [], _∷_}
 use mathlib.Core.Path.{_≡_, refl, ap, fun-ext, _∙_}
 use Prim.Native.Nat.{ℕ, zero, suc, _+_, _≤_, _<_, min}
 use lib.Dec.{eqb}
@@ -12,15 +12,14 @@ use Rattle.text.specs.Rows.{firsts}
 use Rattle.text.specs.declared.programs.Program.{Program}
 use Rattle.text.specs.declared.report.Entry.{Entry}
 use Rattle.text.specs.declared.report.Op.{Op}
-use Rattle.text.proofs.ReportReading.{entry-read}
-use Rattle.text.proofs.RowLaws.{firsts-same, firsts-length}
+use Rattle.text.proofs.RowLaws.{firsts-length}
 use Rattle.ordering.specs.Maps.{upd}
 use Rattle.ordering.proofs.Basics.{byBool}
 use Rattle.model.specs.Batch.{claims}
 use Rattle.model.specs.Machine.{applied}
 use Rattle.model.specs.Replay.{Claim, unclaimed, by, claim, sameOp, right}
 use Rattle.model.proofs.Equal.{same-op}
-use Rattle.machine.specs.Logs.{opAt, firstOps, after, answersFrom}
+use Rattle.machine.specs.Logs.{after, answersFrom}
 use Rattle.machine.specs.Objects.{Content, apply, atStart}
 use Rattle.replay.specs.Judges.{machineOf}
 use Rattle.replay.specs.Promises.{FirstFrom, stateAt, contentsAt, answerAt, Answers}
@@ -65,38 +64,26 @@ module _ (logs : List ℕ) (n r k s : ℕ) (f : FirstFrom (λ i. claims r k (ent
         (ap (λ p. right (apply p (contentsAt (entryAt logs) s (x .op .object)) .0)) (same-op (x .op) o d))
 
 -- ── the answers of all lines ──
-op-entry : (logs : List ℕ) (i : ℕ) → opAt logs i ≡ entryAt logs i .op
-unfolding opAt
-op-entry logs i = ap (λ l. l .op) (entry-read logs i)
-
-ops-firsts : (f : ℕ → Op) (n : ℕ) → firstOps f n ≡ firsts f n
-unfolding firstOps firsts
-ops-firsts f zero = refl
-ops-firsts f (suc n) = ap (λ t. t ++ f n ∷ []) (ops-firsts f n)
-
 answer-at : (line : ℕ → Entry) (n i : ℕ) (c : ℕ → Content) → i < n →
-    getD (answersFrom c (firsts (λ j. line j .op) n)) i 0 ≡ apply (line i .op) (stateAt (λ c l. after c (l .op))
-    line c i (line i .op .object)) .0
+    getD (answersFrom c (firsts line n)) i 0
+    ≡ apply (line i .op) (stateAt (λ c l. after c (l .op)) line c i (line i .op .object)) .0
 answer-at line zero i c h = absurd (omega arith)
-answer-at line (suc n) zero c h = rw (firsts-front (λ j. line j .op) n)
+answer-at line (suc n) zero c h = rw (firsts-front line n)
 answer-at line (suc n) (suc i) c h =
-    rw (firsts-front (λ j. line j .op) n) (answer-at (λ j. line (suc j)) n i (after c (line 0 .op)) (omega arith))
+    rw (firsts-front line n) (answer-at (λ j. line (suc j)) n i (after c (line 0 .op)) (omega arith))
 
-answers-length : (c : ℕ → Content) (os : List Op) → length (answersFrom c os) ≡ length os
+answers-length : (c : ℕ → Content) (ls : List Entry) → length (answersFrom c ls) ≡ length ls
 answers-length c [] = refl
-answers-length c (o ∷ os) = ap suc (answers-length (after c o) os)
+answers-length c (l ∷ ls) = ap suc (answers-length (after c (l .op)) ls)
 
 pub answers-prepared : (logs : List ℕ) (n : ℕ) (before answers : List ℕ) → n ≤ 1024 → length before ≡ 1024 →
-    answers ≡ sets before 0 (answersFrom atStart (firstOps (opAt logs) (min n 1024))) →
+    answers ≡ sets before 0 (answersFrom atStart (firsts (entryAt logs) (min n 1024))) →
     (length answers ≡ 1024) × ((i : ℕ) → i < n → getD answers i 0 ≡ answerAt (entryAt logs) i)
 answers-prepared logs n before answers few room e =
     let m : min n 1024 ≡ n = omega arith in
-    let ops : firstOps (opAt logs) (min n 1024) ≡ firsts (λ j. entryAt logs j .op) n =
-    ap (firstOps (opAt logs)) m ∙ ops-firsts (opAt logs) n
-    ∙ firsts-same (opAt logs) (λ j. entryAt logs j .op) n (λ i h. op-entry logs i) in
-    let vs = answersFrom atStart (firsts (λ j. entryAt logs j .op) n) in
-    let size : length vs ≡ n = answers-length atStart (firsts (λ j. entryAt logs j .op) n) ∙ firsts-length (λ j. entryAt logs j .op) n in
-    let d : answers ≡ sets before 0 vs = e ∙ ap (λ t. sets before 0 (answersFrom atStart t)) ops in (
+    let vs = answersFrom atStart (firsts (entryAt logs) n) in
+    let size : length vs ≡ n = answers-length atStart (firsts (entryAt logs) n) ∙ firsts-length (entryAt logs) n in
+    let d : answers ≡ sets before 0 vs = e ∙ ap (λ k. sets before 0 (answersFrom atStart (firsts (entryAt logs) k))) m in (
       ap length d ∙ length-sets before 0 vs ∙ room,
       λ i h.
           ap (λ t. getD t i 0) (d ∙ sets-eq vs before 0 (omega arith))

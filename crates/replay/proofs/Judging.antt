@@ -27,7 +27,6 @@ use Rattle.model.proofs.Requests.{ofs-counted, ofs-asked}
 use Rattle.model.proofs.Trace.{KnownIn, AnsweredIn, row4-order, row4-answered}
 use Rattle.machine.specs.Instance.{Process, codeAt}
 use Rattle.machine.specs.Objects.{atStart}
-use Rattle.machine.specs.Processes.{limit}
 use Rattle.replay.specs.Judges.{batchOf, Ready, machineOf}
 use Rattle.replay.specs.Promises.{
   FirstFrom,
@@ -282,7 +281,7 @@ module _ (table : List Program) (events : List ℕ) (t : ℕ) (ofs : List ℕ) (
       abbrev reply-is : responseOf (firsts (eventAt events) t) (ofAt ofs k .rid) ≡ said (w .reply .status) (w .reply .value)
       reply-is = response-is table events t ofs m logs n known ready k low (w .s) (w .requests) (w .s′) (w .responses) (w .reply) (w .replies)
 
-      code-is : codeAt limit table (start .prog) ≡ w .program .code
+      code-is : codeAt table (start .prog) ≡ w .program .code
       code-is =
           let b = program-below table events t ofs m logs n known ready k low (w .s) (w .requests) start (w .starts) in
           ap (λ i. getD table i noProgram .code) (sym (mod-eq-of-lt b)) ∙ ap (λ p. p .code) (sym (w .programs))

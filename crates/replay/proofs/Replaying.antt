@@ -8,7 +8,7 @@ use lib.ListN.{getD, set, length, length-set}
 use lib.Seq.{getD-set-same, getD-set-other}
 use native.Mathlib.Numerals.{add-one}
 use native.Mathlib.Omega.{arith}
-use Rattle.text.specs.Held.{entryAt}
+use Rattle.text.specs.Held.{entryAt, noInstr}
 use Rattle.text.specs.Rows.{firsts}
 use Rattle.text.specs.declared.programs.Instr.{Instr}
 use Rattle.text.specs.declared.programs.Program.{Program}
@@ -22,7 +22,7 @@ use Rattle.machine.specs.declared.instructions.Act.the-variants.{Goes, Asks, Re
 use Rattle.machine.specs.declared.processes.Next.the-variants.{Operation, Reply, Cut}
 use Rattle.machine.specs.Instance.{Process, codeAt, gone, nextOf, resumedWith}
 use Rattle.machine.specs.Instructions.{effect, effectOf}
-use Rattle.machine.specs.Processes.{advanced, stopAt, firstLocals, limit, halt, instrAt, go, resumed}
+use Rattle.machine.specs.Processes.{advanced, stopAt, firstLocals, limit, instrAt, go, resumed}
 use Rattle.machine.specs.Objects.{atStart}
 use Rattle.machine.proofs.Turns.{moved, asked, replied}
 use Rattle.replay.specs.Judges.{machineOf}
@@ -92,7 +92,7 @@ same-gone : (table : List Program) (logs : List ℕ) (n rid s v left k : ℕ) (p
     gone limit table p ≡ gone limit table q → replayOf table logs n rid (said s v) left k p ≡ replayOf table logs n rid (said s v) left k q
 same-gone table logs n rid s v left k p q d e =
     alike (machineOf table) _ s v left k p q
-    (λ u. λ i. resumedWith limit table (d i) u (e i)) (λ i. d i ∷ e i .path) (ap (λ t. nextOf (t .stop .next)) e)
+    (λ u. λ i. resumedWith (d i) u (e i)) (λ i. d i ∷ e i .path) (ap (λ t. nextOf (t .stop .next)) e)
 
 -- a process with no instructions left
 cut-off : (limit : ℕ) (table : List Program) (p : Process) → limit ≤ p .done →
@@ -120,7 +120,7 @@ module _ (logs : List ℕ) (n rid count base : ℕ) (code : List Instr) (l₀ ol
     pub fits : base + 256 ≤ 16384
     pub room : length paths ≡ 16384
     pub kept : (i : ℕ) → i < base → getD paths i 0 ≡ getD old i 0
-    pub goes : (table : List Program) (prog s v : ℕ) → codeAt limit table prog ≡ code →
+    pub goes : (table : List Program) (prog s v : ℕ) → codeAt table prog ≡ code →
         replayed table s v (count - k) (suc k) (process prog l at done (pathIn paths base done)) ≡ Whole table prog s v
 
   pub going-start : base + 256 ≤ 16384 → length old ≡ 16384 → Going l₀ 0 0 old 0
@@ -142,7 +142,7 @@ module _ (logs : List ℕ) (n rid count base : ℕ) (code : List Instr) (l₀ ol
     abbrev here : ℕ → Process
     here prog = process prog l at done (pathIn paths base done)
 
-    from-start : (table : List Program) (prog s v : ℕ) → codeAt limit table prog ≡ code → (a b : ℕ) → l₀ ≡ firstLocals a b →
+    from-start : (table : List Program) (prog s v : ℕ) → codeAt table prog ≡ code → (a b : ℕ) → l₀ ≡ firstLocals a b →
         replayed table s v (count - k) (suc k) (here prog)
         ≡ replayed table s v count 1 (machineOf table .start prog a b)
     from-start table prog s v c a b d =
@@ -152,8 +152,8 @@ module _ (logs : List ℕ) (n rid count base : ℕ) (code : List Instr) (l₀ ol
     stopping : (paths′ : List ℕ) (done′ s′ v′ : ℕ) {path : List ℕ} → length paths′ ≡ 16384 → ((i : ℕ) → i < base →
         getD paths′ i 0 ≡ getD old i 0) →
         done′ ≤ 256 → pathIn paths′ base done′ ≡ path →
-        ((table : List Program) (prog : ℕ) → codeAt limit table prog ≡ code → machineOf table .advance (here prog) ≡ stop s′ v′) →
-        ((table : List Program) (prog : ℕ) → codeAt limit table prog ≡ code → machineOf table .pathAtEnd (here prog) ≡ prog ∷ path) →
+        ((table : List Program) (prog : ℕ) → codeAt table prog ≡ code → machineOf table .advance (here prog) ≡ stop s′ v′) →
+        ((table : List Program) (prog : ℕ) → codeAt table prog ≡ code → machineOf table .pathAtEnd (here prog) ≡ prog ∷ path) →
         (end : End) → end ≡ cond (eqb k count) (Ended s′ v′ done′) Differs → Ends paths′ end
     stopping paths′ done′ s′ v′ room kept few path next last end e a b start = byEq k count
         (λ p t.
@@ -190,7 +190,7 @@ module _ (logs : List ℕ) (n rid count base : ℕ) (code : List Instr) (l₀ ol
             gone limit table (here prog) ≡ advanced l (stopAt at done Cut) (pathIn paths base done)
         cut table prog = cut-off limit table (here prog) (omega arith)
 
-    module _ (h : done < 256) (m : List ℕ) (x : Act) (e : effectOf l (getD code (at % 64) halt) (at % 64 + 1) ≡ effect m x) where
+    module _ (h : done < 256) (m : List ℕ) (x : Act) (e : effectOf l (getD code (at % 64) noInstr) (at % 64 + 1) ≡ effect m x) where
       abbrev marked : List ℕ
       marked = set paths (base + done) (at % 64)
 
@@ -203,8 +203,8 @@ module _ (logs : List ℕ) (n rid count base : ℕ) (code : List Instr) (l₀ ol
       path-marked : pathIn marked base (done + 1) ≡ pathIn paths base done ++ (at % 64) ∷ []
       path-marked = path-more base done paths (omega (arith, g .room, g .fits)) (at % 64)
 
-      does : (table : List Program) (prog : ℕ) (y : Act) → codeAt limit table prog ≡ code → x ≡ y →
-          effectOf l (instrAt (codeAt limit table prog) at) (at % 64 + 1) ≡ effect m y
+      does : (table : List Program) (prog : ℕ) (y : Act) → codeAt table prog ≡ code → x ≡ y →
+          effectOf l (instrAt (codeAt table prog) at) (at % 64 + 1) ≡ effect m y
       does table prog y d q = rw d (e ∙ ap (effect m) q)
 
       pub going-moved : (to : ℕ) → x ≡ Goes to → Going m to (done + 1) marked k
@@ -223,7 +223,7 @@ module _ (logs : List ℕ) (n rid count base : ℕ) (code : List Instr) (l₀ ol
       }
 
       -- a fault at this instruction
-      differing : ((table : List Program) (prog s v : ℕ) → codeAt limit table prog ≡ code →
+      differing : ((table : List Program) (prog s v : ℕ) → codeAt table prog ≡ code →
           replayed table s v (count - k) (suc k) (here prog) ≡ differs) → Ends marked Differs
       differing f a b d = record {
         room = room-marked;
@@ -233,12 +233,12 @@ module _ (logs : List ℕ) (n rid count base : ℕ) (code : List Instr) (l₀ ol
       }
 
       module _ (o : Op) (into : ℕ) (q : x ≡ Asks o into) where
-        asks : (table : List Program) (prog : ℕ) → codeAt limit table prog ≡ code →
+        asks : (table : List Program) (prog : ℕ) → codeAt table prog ≡ code →
             gone limit table (here prog) ≡ advanced m (stopAt (at % 64 + 1) (done + 1) (Operation o into))
             (pathIn paths base done ++ (at % 64) ∷ [])
         asks table prog d = asked limit table (here prog) h m o into (does table prog (Asks o into) d q)
 
-        next : (table : List Program) (prog : ℕ) → codeAt limit table prog ≡ code → machineOf table .advance (here prog) ≡ op o
+        next : (table : List Program) (prog : ℕ) → codeAt table prog ≡ code → machineOf table .advance (here prog) ≡ op o
         next table prog d = ap (λ t. nextOf (t .stop .next)) (asks table prog d)
 
         pub going-over : count ≤ k → Ends marked Differs
@@ -276,7 +276,7 @@ module _ (logs : List ℕ) (n rid count base : ℕ) (code : List Instr) (l₀ ol
                 rw left
                 (answered (machineOf table) (claimed table) s v (suc k) (here prog) (count - (k + 1)) o u (next table prog d)
                 (answer y (Right u) f p table)
-                ∙ ap (λ t. replayed table s v (count - (k + 1)) (suc (suc k)) (resumedWith limit table prog u t))
+                ∙ ap (λ t. replayed table s v (count - (k + 1)) (suc (suc k)) (resumedWith prog u t))
                 (asks table prog d)) in
                 (λ i. replayed table s v (count - (k + 1)) (suc (add-one k i)) (r (path-marked i))) ∙ sym a
                 ∙ g .goes table prog s v d;
@@ -290,6 +290,6 @@ module _ (logs : List ℕ) (n rid count base : ℕ) (code : List Instr) (l₀ ol
           (replies table prog d))
           end c
         where
-          replies : (table : List Program) (prog : ℕ) → codeAt limit table prog ≡ code →
+          replies : (table : List Program) (prog : ℕ) → codeAt table prog ≡ code →
               gone limit table (here prog) ≡ advanced m (stopAt (at % 64 + 1) (done + 1) (Reply u)) (pathIn paths base done ++ (at % 64) ∷ [])
           replies table prog d = replied limit table (here prog) h m u (does table prog (Replies u) d q)

@@ -20,7 +20,6 @@ use Rattle.model.specs.Replay.{Reply, said, Outcome, differs, ended, Answer, wr
 use Rattle.machine.specs.Instance.{Process, codeAt}
 use Rattle.machine.specs.Logs.{after}
 use Rattle.machine.specs.Objects.{Content, apply, atStart}
-use Rattle.machine.specs.Processes.{limit}
 use Rattle.replay.specs.Judges.{batchOf, Ready, machineOf}
 use Rattle.replay.specs.declared.Fault.{Fault}
 use Rattle.replay.specs.declared.claims.Answered.{Answered}
@@ -120,7 +119,7 @@ pub record Replays (logs : List ℕ) (n rid count a b base : ℕ) (code : List I
   pub room : length paths ≡ 16384
   pub kept : (i : ℕ) → i < base → getD paths i 0 ≡ getD old i 0
   pub few : doneIn end ≤ 256
-  pub outcome : (table : List Program) (prog s v : ℕ) → codeAt limit table prog ≡ code →
+  pub outcome : (table : List Program) (prog s v : ℕ) → codeAt table prog ≡ code →
       outcomeIn prog paths base end ≡ replayOf table logs n rid (said s v) count 1 (machineOf table .start prog a b)
 
 -- ── rows 10 to 12 of one request ──

@@ -1,6 +1,6 @@
 -- Rows 6, 7 and 8 in the terms of their scans.
 use Prim.Native.Nat.{ℕ, zero, suc, _+_, _-_, _≤_, _<_}
-use mathlib.Core.Bool.{Bool, true, false, not, _||_, _&&_}
+use mathlib.Core.Bool.{Bool, true, false, not, _||_}
 use mathlib.Core.List.{List, [], _∷_}
 use mathlib.Core.Path.{_≡_, refl, sym, ap, _∙_}
 use native.Mathlib.Numerals.{add-one}
@@ -15,7 +15,7 @@ use Rattle.text.specs.declared.report.Of.{Of}
 use Rattle.text.specs.declared.trace.Event.the-variants.{Request, Response}
 use Rattle.text.specs.declared.trace.Event.{Event}
 use Rattle.text.proofs.RowLaws.{firsts-length}
-use Rattle.ordering.proofs.Basics.{clash, byBool, byEq, eqb-yes, eqb-no, yes-eqb, and-true}
+use Rattle.ordering.proofs.Basics.{byBool, byEq, eqb-yes, eqb-no, yes-eqb, and-true}
 use Rattle.model.specs.Audit.{row6From, bad7, row7, allClaimed, bad8}
 use Rattle.model.specs.Batch.{named, countOf, claims, claimed}
 use Rattle.model.specs.Checks.{firstBad}

@@ -1,9 +1,9 @@
 -- Two program tables whose known programs have the same instructions give the same replays.
 use Prim.Native.Nat.{ℕ, zero, suc, _+_, _-_, _%_}
 use mathlib.Core.Bool.{Bool, true, false, cond}
-use mathlib.Core.List.{List, [], _∷_, _++_}
-use mathlib.Core.Option.{Option, none, some}
-use mathlib.Core.Path.{_≡_, refl, sym, ap, _∙_}
+use mathlib.Core.List.{List, [], _∷_}
+use mathlib.Core.Option.{some}
+use mathlib.Core.Path.{_≡_, refl, ap, _∙_}
 use lib.Dec.{eqb}
 use lib.ListN.{getD}
 use Rattle.text.specs.Held.{noProgram}
@@ -94,7 +94,7 @@ module _ (limit : ℕ) (t u : List Program) where
   advance-same p h = ap (λ r. nextOf (r .stop .next)) (gone-same p h)
 
   resume-same : (p : Process) → Same (p .prog) → (v : ℕ) → M .resume p v ≡ N .resume p v
-  resume-same p h v = ap (resumedWith limit t (p .prog) v) (gone-same p h)
+  resume-same p h v = ap (resumedWith (p .prog) v) (gone-same p h)
 
   -- ── claims ──
   abbrev moved : Claim M → Claim N

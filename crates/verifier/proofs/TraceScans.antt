@@ -1,6 +1,6 @@
 -- Row 4 in the terms of its scans: an event among those above it, and a request among all events.
 use Prim.Native.Nat.{ℕ, _+_, _<_}
-use mathlib.Core.Bool.{Bool, true, false, not, _||_}
+use mathlib.Core.Bool.{Bool, true, false, not}
 use mathlib.Core.List.{List, [], _∷_}
 use mathlib.Core.Path.{_≡_, refl, sym, ap, _∙_}
 use native.Mathlib.Omega.{arith}
@@ -11,7 +11,7 @@ use Rattle.model.specs.Audit.{bad4, row4, unanswered}
 use Rattle.model.specs.Batch.{requested, answered}
 use Rattle.machine.specs.declared.rules.Ruling.the-variants.{Broken}
 use Rattle.verifier.specs.Faults.{brokenLine}
-use Rattle.verifier.specs.Steps.{any, alike, hasLike, mayStand, settles}
+use Rattle.verifier.specs.Steps.{any, alike, mayStand, settles}
 use Rattle.verifier.proofs.Scans.{or-true, above, any-firsts, Scanned, scan-on, scan-bad}
 
 -- the rid of an event is all that counts

@@ -1,14 +1,14 @@
 -- The audit from one row to the next: a row that holds gives the verdict, and a row that does not leaves it to the rows behind.
 use Prim.Native.Nat.{ℕ, suc, _≤_, _<_, min}
-use mathlib.Core.Bool.{true, false, cond}
+use mathlib.Core.Bool.{true, false}
 use mathlib.Core.List.{List, [], _∷_}
 use mathlib.Core.Logic.{_↔_}
 use mathlib.Core.Option.{Option, none, some}
 use mathlib.Core.Path.{_≡_, refl, sym, ap, _∙_, subst}
 use native.Mathlib.Omega.{arith}
 use borrow.Author.Tests.{ltb-true}
-use lib.Dec.{eqb, ltb}
-use lib.ListN.{length, getD}
+use lib.Dec.{ltb}
+use lib.ListN.{length}
 use Rattle.text.specs.Held.{eventAt, ofAt, entryAt, readIn, reportIn, programAt, programsIn, TraceIs, ReportIs, ProgramsIs, ofsIn, logsIn}
 use Rattle.text.specs.Held as held
 use Rattle.text.specs.Programs.{readPrograms}
@@ -39,7 +39,7 @@ use Rattle.machine.specs.declared.rules.Ruling.{Ruling}
 use Rattle.replay.specs.Judges.{batchIn, Ready, checks, Judges}
 use Rattle.replay.specs.declared.Fault.{Fault}
 use Rattle.verifier.specs.Accepts.{Accepts}
-use Rattle.verifier.specs.Faults.{badLine, contents, brokenLine, row2, known, batchOf, checksOf, audited, auditedOf, auditOf}
+use Rattle.verifier.specs.Faults.{badLine, contents, brokenLine, row2, known, batchOf, audited, auditedOf, auditOf}
 use Rattle.verifier.specs.Steps.{
   refusal,
   tableIn,
@@ -54,7 +54,7 @@ use Rattle.verifier.specs.declared.Audited.{Audited}
 use Rattle.verifier.proofs.Acceptance.{audit-accepts}
 use Rattle.verifier.proofs.ReportRanges.{report-in-range}
 use Rattle.verifier.proofs.SameReplays.{replays-same}
-use Rattle.verifier.proofs.Tables.{rules-read, same-code}
+use Rattle.verifier.proofs.Tables.{same-code}
 
 -- ── one row ──
 -- a ruling r tells the line o of a row, and is k's
@@ -252,9 +252,11 @@ module _ (s trace report : List ℕ) (ps : Programs) (h : ProgramsIs s ps) where
     unfolding programsIn
     table-read = rw ok at (h .read)
 
-    module _ (r : Ruling) (e : r ≡ rulingOf (min (ps .n) 16) (ps .table)) where
+    module _ (r : Ruling) (e : r ≡ rulingOf (firsts (programAt (ps .table)) (min (ps .n) 16))) where
       ruled : brokenLine r ≡ row2 (tableIn ps)
-      ruled = ap brokenLine (e ∙ rules-read (ps .table) (ps .n) (h .few))
+      ruled =
+          let z : min (ps .n) 16 ≡ ps .n = omega (arith, h .few) in
+          ap brokenLine (e ∙ ap (λ n. rulingOf (firsts (programAt (ps .table)) n)) z)
 
       whole-text : auditedOf (readable (tableIn ps)) (readTrace trace) (readReport report) ≡ auditOf s trace report
       unfolding auditOf

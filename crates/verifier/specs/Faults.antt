@@ -38,7 +38,7 @@ brokenLine (Broken n) = some n
 
 -- Row 2: a program rule broken.
 abbrev pub row2 : List Program → Option ℕ
-row2 table = brokenLine (rulingOf (length table) table)
+row2 table = brokenLine (rulingOf table)
 
 -- the numbers of the programs that there are
 abbrev pub known : List Program → ℕ → Bool
