@@ -1,0 +1,2 @@
+-- The worked schedules, computed
+mod Stars
