@@ -1,2 +1,3 @@
--- The definitions.
+-- The definitions, in reading order.
 pub mod Recorded
+pub mod Accepted
