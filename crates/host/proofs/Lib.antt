@@ -1,5 +1,7 @@
--- The worked schedules, computed (Stars); what was read is in range (Readings); what is written is accepted (Acceptance).
+-- The worked schedules, computed (Stars); what was read is in range (Readings); what is written is accepted (Acceptance);
+-- and the laws that functions rest on: of row 16 (Fitting).
 mod Stars
 pub mod Readings
 pub mod Bounds
 pub mod Acceptance
+pub mod Fitting

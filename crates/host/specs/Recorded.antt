@@ -2,8 +2,10 @@
 use Prim.Native.Nat.{ℕ}
 use mathlib.Core.Bool.{Bool, cond, _&&_}
 use mathlib.Core.List.{List, []}
+use mathlib.Core.Path.{_≡_}
 use lib.Dec.{leb, ltb}
 use lib.ListN.{length}
+use Rattle.lines.specs.Put.{front}
 use Rattle.text.specs.Formats.{mostEntries}
 use Rattle.text.specs.Programs.{readPrograms}
 use Rattle.text.specs.Report.{reportText}
@@ -81,3 +83,9 @@ resultOf (made t) = record { verdict = 0; line = 0; «trace_len» = length (t .t
 abbrev pub writtenOf : Result Texts → Texts
 writtenOf (fault number line) = record { trace = []; report = [] }
 writtenOf (made t) = t
+
+-- the result, and the two buffers afterwards: each text over the front of what its buffer held
+pub record RecordIs (x : Result Texts) (trace report traceAfter reportAfter : List ℕ) (r : Recorded) : Type 0 where
+  pub result : r ≡ resultOf x
+  pub traceBytes : traceAfter ≡ front (writtenOf x .trace) trace
+  pub reportBytes : reportAfter ≡ front (writtenOf x .report) report
