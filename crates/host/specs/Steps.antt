@@ -1,12 +1,15 @@
 -- What the private functions of this crate promise. The public contracts do not need it.
-use Prim.Native.Nat.{ℕ, min}
-use mathlib.Core.List.{List}
+use Prim.Native.Nat.{ℕ, _+_, _≤_, min}
+use mathlib.Core.List.{List, _++_}
+use lib.ListN.{length}
 use mathlib.Core.Path.{_≡_}
-use Rattle.text.specs.Held.{eventAt, reportOf}
+use Rattle.text.specs.Held.{eventAt, entryAt, reportOf}
 use Rattle.text.specs.Report.{reportText}
 use Rattle.text.specs.Rows.{firsts}
 use Rattle.text.specs.Trace.{traceText}
 use Rattle.text.specs.declared.programs.Instr.{Instr}
+use Rattle.text.specs.declared.report.Entry.{Entry}
+use Rattle.model.specs.Batch.{logOf}
 use Rattle.machine.specs.Processes.{limit, advanceOf}
 use Rattle.machine.specs.declared.processes.Stop.{Stop}
 use Rattle.host.specs.Recorded.{Texts}
@@ -23,3 +26,18 @@ heldTexts events n ofs m logs k =
 pub record WentOn (code : List Instr) (l : List ℕ) (at done : ℕ) (lAfter : List ℕ) (r : Stop) : Type 0 where
   pub locals : lAfter ≡ advanceOf limit code l at done .locals
   pub stop : r ≡ advanceOf limit code l at done .stop
+
+-- the lines of one object among the first n of logs
+abbrev pub linesOf : (logs : List ℕ) (n object : ℕ) → List Entry
+linesOf logs n object = logOf object (firsts (entryAt logs) n)
+
+-- there is room for them behind the first `at` of out
+pub record RoomFor (logs : List ℕ) (n object : ℕ) (out : List ℕ) (at : ℕ) : Type 0 where
+  pub size : length out ≡ 6144
+  pub room : at + length (linesOf logs n object) ≤ 1024
+
+-- they have joined them, which makes `atAfter` lines
+pub record Picked (logs : List ℕ) (n object : ℕ) (out : List ℕ) (at : ℕ) (outAfter : List ℕ) (atAfter : ℕ) : Type 0 where
+  pub size : length outAfter ≡ 6144
+  pub count : atAfter ≡ at + length (linesOf logs n object)
+  pub lines : firsts (entryAt outAfter) atAfter ≡ firsts (entryAt out) at ++ linesOf logs n object

@@ -1,4 +1,5 @@
 // The reference host: the run of a schedule, and the trace and the report that it writes.
+mod logs;
 mod outputs;
 mod turns;
 
