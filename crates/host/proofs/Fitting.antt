@@ -9,7 +9,7 @@ use Rattle.lines.specs.Put.{front, writtenOf, PutIs}
 use Rattle.lines.specs.declared.writer.Put.{Put}
 use Rattle.lines.proofs.Puts.{put-done}
 use Rattle.ordering.proofs.Basics.{byBool}
-use Rattle.model.specs.Host.{fault, made}
+use Rattle.model.specs.Host.{fault}
 use Rattle.host.specs.Recorded.{Texts, fitted, resultOf, RecordIs}
 use Rattle.host.specs.declared.Recorded.{Recorded}
 

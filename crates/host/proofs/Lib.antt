@@ -1,5 +1,5 @@
 -- The worked schedules, computed (Stars); what was read is in range (Readings); what is written is accepted (Acceptance);
--- and the laws that functions rest on: of row 16 (Fitting), of a turn (Going), of the log by object (Picking).
+-- and the laws that functions rest on: of row 16 (Fitting), of a turn (Going), of the log by object (Picking, Sorting).
 mod Stars
 pub mod Readings
 pub mod Bounds
@@ -7,3 +7,4 @@ pub mod Acceptance
 pub mod Fitting
 pub mod Going
 pub mod Picking
+pub mod Sorting

@@ -1,6 +1,5 @@
 -- Laws of the log by object: the lines of one object join those of the objects before it.
 use Prim.Native.Nat.{ℕ, zero, suc, _+_, _*_, _≤_, _<_}
-use mathlib.Core.Bool.{Bool, true, false, cond}
 use mathlib.Core.List.{List, [], _∷_, _++_, append-assoc, append-nil}
 use mathlib.Core.Path.{_≡_, refl, sym, ap, subst, _∙_}
 use native.Mathlib.Numerals.{add-one}
@@ -10,7 +9,7 @@ use lib.ListN.{length, length-append}
 use borrow.Author.Tests.{eq-eqb, ne-eqb, eqb-true, eqb-false}
 use Rattle.text.specs.Held.{entryAt}
 use Rattle.text.specs.Report.{entryFrom, entryNumbers}
-use Rattle.text.specs.Rows.{row, withRow, firsts}
+use Rattle.text.specs.Rows.{withRow, firsts}
 use Rattle.text.specs.declared.report.Entry.{Entry}
 use Rattle.text.proofs.RowLaws.{row-room, rows-put}
 use Rattle.ordering.proofs.Basics.{byBool}

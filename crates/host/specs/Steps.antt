@@ -10,6 +10,7 @@ use Rattle.text.specs.Trace.{traceText}
 use Rattle.text.specs.declared.programs.Instr.{Instr}
 use Rattle.text.specs.declared.report.Entry.{Entry}
 use Rattle.model.specs.Batch.{logOf}
+use Rattle.model.specs.Host.{logsFrom}
 use Rattle.machine.specs.Processes.{limit, advanceOf}
 use Rattle.machine.specs.declared.processes.Stop.{Stop}
 use Rattle.host.specs.Recorded.{Texts}
@@ -41,3 +42,9 @@ pub record Picked (logs : List ℕ) (n object : ℕ) (out : List ℕ) (at : ℕ)
   pub size : length outAfter ≡ 6144
   pub count : atAfter ≡ at + length (linesOf logs n object)
   pub lines : firsts (entryAt outAfter) atAfter ≡ firsts (entryAt out) at ++ linesOf logs n object
+
+-- the lines of the first m objects stand in out, by rising object, `at` lines in all
+pub record Sorted (logs : List ℕ) (n m : ℕ) (out : List ℕ) (at : ℕ) : Type 0 where
+  pub size : length out ≡ 6144
+  pub count : at ≡ length (logsFrom (linesOf logs n) 0 m)
+  pub lines : firsts (entryAt out) at ≡ logsFrom (linesOf logs n) 0 m

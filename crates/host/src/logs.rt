@@ -2,10 +2,11 @@
 use text::Entry;
 use text::entry_at;
 ghost use mathlib.Core.Path.{_≡_};
-ghost use Prim.Native.Nat.{_<_};
+ghost use Prim.Native.Nat.{_<_, _≤_};
+ghost use lib.ListN.{length};
 ghost use Rattle.text.specs.Report.{entryNumbers};
 ghost use Rattle.text.specs.Rows.{withRow};
-ghost use Rattle.host.specs.Steps.{RoomFor, Picked};
+ghost use Rattle.host.specs.Steps.{RoomFor, Picked, Sorted};
 
 // Row i of logs.
 fn put_line(logs: &mut [u64; 6144], i: usize, l: Entry)
@@ -37,6 +38,20 @@ fn put_object(logs: &[u64; 6144], n: usize, object: u64, out: &mut [u64; 6144], 
         } else {
             i += 1;
         }
+    }
+    at
+}
+
+// The first n lines by rising object, within one in order of execution; how many there are.
+fn by_object(logs: &[u64; 6144], n: usize, out: &mut [u64; 6144]) -> usize
+    requires { ⌜ (n ≤ 1024) × (length (now out) ≡ 6144) ⌝ }
+    ensures { λ r. ⌜ Sorted (now (logs .entry)) n 16 (now (out .exit)) r ⌝ }
+{
+    let mut at: usize = 0;
+    let mut object: u64 = 0;
+    while object < 16 {
+        at = put_object(logs, n, object, out, at);
+        object += 1;
     }
     at
 }

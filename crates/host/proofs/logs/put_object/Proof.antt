@@ -2,7 +2,6 @@
 use mathlib.Core.Path.{sym, ap, _∙_}
 use native.Mathlib.Omega.{arith}
 use Prim.Native.Nat.{_-_, _≤_}
-use denote.Ref.{now}
 use Rattle.text.specs.Report.{entryNumbers}
 use Rattle.text.specs.Rows.{withRow}
 use Rattle.host.specs.Steps.{Picked}
