@@ -1,6 +1,6 @@
 -- The scope's worked schedules, and the small examples of rows 13 to 16, as texts with what the host makes of them: computed from the
 -- meaning.
-use Prim.Native.Nat.{ℕ}
+use Prim.Native.Nat.{ℕ, zero, suc}
 use Prim.Native.String.{String}
 use mathlib.Core.List.{List, [], _∷_, _++_, map}
 use mathlib.Core.Path.{_≡_, refl}
@@ -20,7 +20,8 @@ use Rattle.model.specs.Host.{Result, fault, made}
 use Rattle.machine.specs.Instructions.{effectAs}
 use Rattle.machine.specs.Processes.{go}
 use Rattle.machine.specs.Rules.{instructions, programs}
-use Rattle.host.specs.Recorded.{Texts, batchOf, recordOf}
+use Rattle.host.specs.Recorded.{Texts, batchOf, recordOf, resultOf}
+use Rattle.host.specs.declared.Recorded.{Recorded}
 
 abbrev text : List String → List ℕ
 text [] = []
@@ -105,3 +106,30 @@ unfolding recordOf batchOf readPrograms readSchedule readText readLines addLine 
     parts onto within count addProgram addDo addArrive addTurn programs instructions go effectAs upd
     traceText reportText linesText eventText ofText entryText lineText numbersText separatorOf decimal digitsIn
 rows-13-to-16 = refl
+
+-- ── the edges: a program that reads as each second instruction, so that the 128th operation is the 256th instruction ──
+abbrev reading : List String
+reading = "program=0" ∷ "do=1,2,1,0" ∷ "do=6,3,0,0" ∷ "do=5,2,1,0" ∷ "do=0,0,0,0" ∷ []
+
+abbrev times : ℕ → String → List String → List String
+times zero l ls = ls
+times (suc n) l ls = l ∷ times n l ls
+
+abbrev results : (schedule : List String) → Recorded
+results schedule = resultOf (recordOf (text reading) (text schedule) 65535 65535)
+
+abbrev recordedAs : (verdict line trace report : ℕ) → Recorded
+recordedAs verdict line trace report = record { verdict = verdict; line = line; «trace_len» = trace; «report_len» = report }
+
+-- it is carried out and logged, and the next turn cuts
+last-instruction : results ("arrive=1,0,0,0" ∷ times 129 "turn=1" []) ≡ recordedAs 0 0 31 2207
+unfolding recordOf batchOf readPrograms readSchedule readText readLines addLine lineOf fieldsOf fieldOf prefix numberOf digitsOf pushOf
+    parts onto within count addProgram addDo addArrive addTurn programs instructions go effectAs upd
+    traceText reportText linesText eventText ofText entryText lineText numbersText separatorOf decimal digitsIn
+last-instruction = refl
+
+still-open : results ("arrive=1,0,0,0" ∷ times 128 "turn=1" []) ≡ recordedAs 15 1 0 0
+unfolding recordOf batchOf readPrograms readSchedule readText readLines addLine lineOf fieldsOf fieldOf prefix numberOf digitsOf pushOf
+    parts onto within count addProgram addDo addArrive addTurn programs instructions go effectAs upd
+    traceText reportText linesText eventText ofText entryText lineText numbersText separatorOf decimal digitsIn
+still-open = refl
