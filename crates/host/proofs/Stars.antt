@@ -133,3 +133,26 @@ unfolding recordOf batchOf readPrograms readSchedule readText readLines addLine 
     parts onto within count addProgram addDo addArrive addTurn programs instructions go effectAs upd
     traceText reportText linesText eventText ofText entryText lineText numbersText separatorOf decimal digitsIn
 still-open = refl
+
+-- 1,024 operations of eight requests pass; the ninth's first is one too many
+abbrev turnsOf8 : List String → List String
+turnsOf8 ls =
+    times 128 "turn=1" (times 128 "turn=2" (times 128 "turn=3" (times 128 "turn=4"
+    (times 128 "turn=5" (times 128 "turn=6" (times 128 "turn=7" (times 128 "turn=8" ls)))))))
+
+abbrev nine : List String → List String
+nine ls =
+    "arrive=1,0,0,0" ∷ "arrive=2,0,0,0" ∷ "arrive=3,0,0,0" ∷ "arrive=4,0,0,0" ∷ "arrive=5,0,0,0" ∷ "arrive=6,0,0,0"
+    ∷ "arrive=7,0,0,0" ∷ "arrive=8,0,0,0" ∷ "arrive=9,0,0,0" ∷ ls
+
+one-too-many : results (nine (turnsOf8 ("turn=9" ∷ []))) ≡ recordedAs 14 1034 0 0
+unfolding recordOf batchOf readPrograms readSchedule readText readLines addLine lineOf fieldsOf fieldOf prefix numberOf digitsOf pushOf
+    parts onto within count addProgram addDo addArrive addTurn programs instructions go effectAs upd
+    traceText reportText linesText eventText ofText entryText lineText numbersText separatorOf decimal digitsIn
+one-too-many = refl
+
+enough : results (nine (turnsOf8 [])) ≡ recordedAs 15 1 0 0
+unfolding recordOf batchOf readPrograms readSchedule readText readLines addLine lineOf fieldsOf fieldOf prefix numberOf digitsOf pushOf
+    parts onto within count addProgram addDo addArrive addTurn programs instructions go effectAs upd
+    traceText reportText linesText eventText ofText entryText lineText numbersText separatorOf decimal digitsIn
+enough = refl
