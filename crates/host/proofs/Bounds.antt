@@ -160,8 +160,8 @@ module _ (limit : ℕ) (table : List Program) (words : (prog at : ℕ) → Word 
       (λ l at n k. fits l (instrAt (codeAt table (p .prog)) at) n k (words (p .prog) at) _ refl) (p .locals) (p .at) (p .done) h in
       record { locals-fit = g .locals-fit; next-fit = g .next-fit; counted = g .counted }
 
-  pub operates : (n : ℕ) (p : Process) (o : Op) (c : Content) → (limit - p .done ≤ n) × Words (p .locals) → machine limit table .advance p ≡ op o
-      → FitContent c → FitOp o × FitContent (apply o c .1)
+  pub operates : (n : ℕ) (p : Process) (o : Op) (c : Content) → (limit - p .done ≤ n) × Words (p .locals)
+      → machine limit table .advance p ≡ op o → FitContent c → FitOp o × FitContent (apply o c .1)
       × ((m : ℕ) × (suc m ≤ n)
       × ((limit - machine limit table .resume p (apply o c .0) .done ≤ m) × Words (machine limit table .resume p (apply o c .0) .locals)))
   operates n p o c f e h =
