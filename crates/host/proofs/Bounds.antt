@@ -1,0 +1,208 @@
+-- The ranges that the machine keeps, as the model asks for them. Crate machine proves the same as `bounded`, but exports it without its
+-- fields' meanings, and the texts' ranges have to be read off these; once it is an `abbrev` there, this file is only `numbered`.
+use Prim.Native.Nat.{ℕ, zero, suc, _+_, _-_, _%_, _^_, _≤_, _<_}
+use mathlib.Core.Path.{_≡_, refl, subst}
+use mathlib.Core.Bool.{Bool, true, false, cond}
+use mathlib.Core.List.{List, [], _∷_}
+use native.Mathlib.Omega.{arith}
+use lib.Dec.{eqb, ltb}
+use lib.ListN.{getD, set, replicate}
+use Rattle.text.specs.declared.programs.Instr.{Instr}
+use Rattle.text.specs.declared.programs.Program.{Program}
+use Rattle.text.specs.declared.report.Op.{Op}
+use Rattle.model.specs.Machine.{op, stop}
+use Rattle.model.specs.Bounds.{Bounded}
+use Rattle.machine.specs.declared.objects.Cell.the-variants.{Put}
+use Rattle.machine.specs.declared.instructions.Act.{Act}
+use Rattle.machine.specs.declared.instructions.Act.the-variants.{Goes, Asks, Replies}
+use Rattle.machine.specs.declared.processes.Next.{Next}
+use Rattle.machine.specs.declared.processes.Next.the-variants.{Operation, Reply, Cut}
+use Rattle.machine.specs.Codes.{codeOf}
+use Rattle.machine.specs.Instructions.{Effect, effectAs, effectOf, local}
+use Rattle.machine.specs.Processes.{Advanced, behind, follow, go, instrAt, resumed}
+use Rattle.machine.specs.Objects.{Content, register, store, reads, apply, changes, written, valueOf}
+use Rattle.ordering.proofs.Basics.{clash}
+use Rattle.machine.proofs.Bounds.{Word}
+use Rattle.machine.specs.Instance.{Process, machine, nextOf, intoOf, codeAt, gone}
+
+abbrev pub Words : List ℕ → Type 0
+Words l = (i : ℕ) → Word (getD l i 0)
+
+words-cons : (x : ℕ) (l : List ℕ) → Word x → Words l → Words (x ∷ l)
+words-cons x l w h zero = w
+words-cons x l w h (suc i) = h i
+
+words-zero : (n : ℕ) → Words (replicate n 0)
+words-zero zero = λ i. omega arith
+words-zero (suc n) = words-cons 0 (replicate n 0) (omega arith) (words-zero n)
+
+words-set : (l : List ℕ) (k v : ℕ) → Words l → Word v → Words (set l k v)
+words-set [] k v h w = h
+words-set (x ∷ l) zero v h w = words-cons v l w (λ i. h (suc i))
+words-set (x ∷ l) (suc k) v h w = words-cons x (set l k v) (h zero) (words-set l k v (λ i. h (suc i)) w)
+
+word-mod : (n : ℕ) → Word (n % 2 ^ 64)
+word-mod n = omega arith
+
+word-cond : (b : Bool) (x y : ℕ) → Word x → Word y → Word (cond b x y)
+word-cond true x y v w = v
+word-cond false x y v w = w
+
+-- ── a request as it goes on ──
+
+-- W is kept by the locals, F holds of the operations and R of the replies, if each instruction of the code sees to it
+module _ (W : List ℕ → Type 0) (F : Op → Type 0) (R : ℕ → Type 0) where
+  abbrev FitAct : Act → Type 0
+  FitAct (Goes to) = Unit {0}
+  FitAct (Asks o into) = F o
+  FitAct (Replies v) = R v
+
+  abbrev FitEffect : Effect → Type 0
+  FitEffect e = W (e .locals) × FitAct (e .act)
+
+  abbrev FitNext : Next → Type 0
+  FitNext (Operation o into) = F o
+  FitNext (Reply v) = R v
+  FitNext Cut = Unit {0}
+
+  -- gone on from `done` instructions with k left
+  record FitAdvanced (k done : ℕ) (r : Advanced) : Type 0 where
+    pub locals-fit : W (r .locals)
+    pub next-fit : FitNext (r .stop .next)
+    pub counted : (o : Op) (into : ℕ) → r .stop .next ≡ Operation o into → (done < r .stop .done) × (r .stop .done ≤ done + k)
+
+  follows : (e : Effect) (k at n done : ℕ) (f : List ℕ → ℕ → Advanced) → FitEffect e
+      → ((l : List ℕ) (to : ℕ) → W l → FitAdvanced k (done + 1) (f l to))
+      → FitAdvanced (suc k) done (behind at (follow (e .act) (e .locals) n (done + 1) f))
+  follows e k at n done f w g = by (e .act) (e .locals) (w .0) (w .1)
+    where
+      by : (x : Act) (m : List ℕ) → W m → FitAct x → FitAdvanced (suc k) done (behind at (follow x m n (done + 1) f))
+      by (Goes to) m h v =
+          let r = g m to h in
+          record {
+            locals-fit = r .locals-fit;
+            next-fit = r .next-fit;
+            counted = λ o into e. let c = r .counted o into e in (omega (arith, c .0), omega (arith, c .1));
+          }
+      by (Asks o into) m h v = record { locals-fit = h; next-fit = v; counted = λ o into e. (omega arith, omega arith) }
+      by (Replies v) m h w = record { locals-fit = h; next-fit = w; counted = λ o into e. clash (cc) }
+
+  goes : (k : ℕ) (code : List Instr) → ((l : List ℕ) (at n : ℕ) → W l → FitEffect (effectOf l (instrAt code at) n))
+      → (l : List ℕ) (at done : ℕ) → W l → FitAdvanced k done (go k code l at done)
+  unfolding go
+  goes zero code b l at done h = record { locals-fit = h; next-fit = tt; counted = λ o into e. clash (cc) }
+  goes (suc k) code b l at done h =
+      follows (effectOf l (instrAt code at) (at % 64 + 1)) k (at % 64) (at % 64 + 1) done
+      (λ m to. go k code m to (done + 1)) (b l at (at % 64 + 1) h) (λ m to g. goes k code b m to (done + 1) g)
+
+-- ── what the model asks ──
+operation : (x : Next) (o : Op) → nextOf x ≡ op o → (into : ℕ) × (x ≡ Operation o into)
+operation (Operation u into) o e = (into, cc)
+operation (Reply v) o e = clash (cc)
+operation Cut o e = clash (cc)
+
+-- fields stay below 2^64
+abbrev pub FitOp : Op → Type 0
+FitOp o = (o .object < 16) × (6 ≤ o .kind) × (o .kind ≤ 9) × Word (o .key) × Word (o .value)
+
+module _ (l : List ℕ) (i : Instr) (n : ℕ) (h : Words l) (w : Word (i .b)) where
+  fits : (code : ℕ) → i .code ≡ code → FitEffect Words FitOp Word (effectAs (codeOf code) l i n)
+  unfolding effectAs
+  fits zero e = (h, h (i .a % 8))
+  fits (suc zero) e = (words-set l (i .a % 8) (i .b) h w, tt)
+  fits (suc (suc zero)) e = (words-set l (i .a % 8) _ h (word-mod _), tt)
+  fits (suc (suc (suc zero))) e = (words-set l (i .a % 8) _ h (word-mod _), tt)
+  fits (suc (suc (suc (suc zero)))) e =
+      (words-set l (i .a % 8) _ h (word-cond (ltb (local l (i .b)) (local l (i .c))) 1 0 (omega arith) (omega arith)), tt)
+  fits (suc (suc (suc (suc (suc zero))))) e = (h, tt)
+  fits (suc (suc (suc (suc (suc (suc zero)))))) e = (h, (omega arith, omega arith, omega arith, omega arith, omega arith))
+  fits (suc (suc (suc (suc (suc (suc (suc zero))))))) e = (h, (omega arith, omega arith, omega arith, omega arith, h (i .b % 8)))
+  fits (suc (suc (suc (suc (suc (suc (suc (suc zero)))))))) e = (h, (omega arith, omega arith, omega arith, h (i .c % 8), omega arith))
+  fits (suc (suc (suc (suc (suc (suc (suc (suc (suc zero))))))))) e = (h, (omega arith, omega arith, omega arith, h (i .b % 8), h (i .c % 8)))
+  fits (suc (suc (suc (suc (suc (suc (suc (suc (suc (suc k)))))))))) e = (h, tt)
+
+replies : (x : Next) (status value : ℕ) → FitNext Words FitOp Word x → nextOf x ≡ stop status value → (status ≤ 1) × Word value
+replies (Operation u into) s v f e = clash (cc)
+replies (Reply u) s v f e = let i : 0 ≡ s = cc in let j : u ≡ v = cc in (omega arith, subst Word j f)
+replies Cut s v f e = let i : 1 ≡ s = cc in let j : 0 ≡ v = cc in (omega arith, omega arith)
+
+abbrev pub FitContent : Content → Type 0
+FitContent c = (key : ℕ) → Word (reads c key)
+
+module _ (o : Op) (w : Word (o .value)) where
+  written-fit : (c : Content) → FitContent c → FitContent (written o c)
+  written-fit (register v) h key = w
+  written-fit (store cells) h key = by (eqb (o .key) key)
+    where
+      by : (b : Bool) → Word (valueOf (cond b (Put (o .value)) (cells key)))
+      by true = w
+      by false = h key
+
+  left-fit : (c : Content) → FitContent c → FitContent (apply o c .1)
+  left-fit c h = by (changes o c)
+    where
+      by : (b : Bool) → FitContent (cond b (written o c) c)
+      by true = written-fit c h
+      by false = h
+
+words-resumed : (l : List ℕ) (into v : ℕ) → Words l → Word v → Words (resumed l into v)
+words-resumed l into v h w = by (ltb into 8)
+  where
+    by : (b : Bool) → Words (cond b (set l into v) l)
+    by true = words-set l into v h w
+    by false = h
+
+-- a constant, as every field, is a number of 64 bits
+module _ (limit : ℕ) (table : List Program) (words : (prog at : ℕ) → Word (instrAt (codeAt table prog) at .b)) where
+  went : (p : Process) → Words (p .locals) → FitAdvanced Words FitOp Word (limit - p .done) (p .done) (gone limit table p)
+  went p h =
+      let g = goes Words FitOp Word (limit - p .done) (codeAt table (p .prog))
+      (λ l at n k. fits l (instrAt (codeAt table (p .prog)) at) n k (words (p .prog) at) _ refl) (p .locals) (p .at) (p .done) h in
+      record { locals-fit = g .locals-fit; next-fit = g .next-fit; counted = g .counted }
+
+  pub operates : (n : ℕ) (p : Process) (o : Op) (c : Content) → (limit - p .done ≤ n) × Words (p .locals)
+      → machine limit table .advance p ≡ op o → FitContent c → FitOp o × FitContent (apply o c .1)
+      × ((m : ℕ) × (suc m ≤ n)
+      × ((limit - machine limit table .resume p (apply o c .0) .done ≤ m) × Words (machine limit table .resume p (apply o c .0) .locals)))
+  operates n p o c f e h =
+      let r = gone limit table p in
+      let g = went p (f .1) in
+      let d = operation (r .stop .next) o e in
+      let k = g .counted o (d .0) (d .1) in
+      let w : FitOp o = subst (FitNext Words FitOp Word) (d .1) (g .next-fit) in (
+        w,
+        left-fit o (w .4) c h,
+        (
+          limit - r .stop .done,
+          omega (arith, f .0, k .0, k .1),
+          (
+            omega arith,
+            words-resumed (r .locals) (intoOf (r .stop .next)) (apply o c .0) (g .locals-fit)
+                (word-cond (changes o c) 0 (reads c (o .key)) (omega arith) (h (o .key))),
+          ),
+        ),
+      )
+
+  pub starts : (prog a b : ℕ) → Word prog × (Word a × Word b) →
+      (limit - machine limit table .start prog a b .done ≤ limit) × Words (machine limit table .start prog a b .locals)
+  starts prog a b h =
+      (omega arith, words-cons a (b ∷ replicate 6 0) (h .1 .0) (words-cons b (replicate 6 0) (h .1 .1) (words-zero 6)))
+
+  pub stops : (n : ℕ) (p : Process) (status value : ℕ) → (limit - p .done ≤ n) × Words (p .locals) →
+      machine limit table .advance p ≡ stop status value → (status ≤ 1) × Word value
+  stops n p status value f e = replies (gone limit table p .stop .next) status value (went p (f .1) .next-fit) e
+
+  -- with program numbers of 64 bits
+  abbrev pub numbered : Bounded (machine limit table)
+  numbered =
+      record {
+        Fit = λ n p. (limit - p .done ≤ n) × Words (p .locals);
+        FitContent = FitContent;
+        FitInput = λ prog a b. Word prog × (Word a × Word b);
+        FitOp = FitOp;
+        FitReply = λ status value. (status ≤ 1) × Word value;
+        most = limit;
+        starts = starts;
+        operates = operates;
+        stops = stops;
+      }

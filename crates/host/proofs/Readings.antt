@@ -1,0 +1,176 @@
+-- What readable programs and a readable schedule hold is in the ranges of its fields. (Laws about reading that crate text does not have.)
+use Prim.Native.Nat.{ℕ, zero, suc, _+_, _%_, _≤_, _<_}
+use mathlib.Core.Bool.{Bool, true, false}
+use mathlib.Core.List.{List, [], _∷_, _++_}
+use mathlib.Core.Option.{Option, none, some}
+use mathlib.Core.Path.{_≡_, refl, ap, subst}
+use native.Mathlib.Omega.{arith}
+use borrow.Author.Tests.{ltb-true}
+use lib.Dec.{ltb}
+use lib.ListN.{length, getD}
+use Rattle.lines.specs.Line.{Range, InRanges, any, lineOf}
+use Rattle.lines.specs.Parts.{parts}
+use Rattle.lines.proofs.LineTrip.{line-range}
+use Rattle.text.specs.Formats.{doLine, programLine, arriveLine, turnLine}
+use Rattle.text.specs.Held.{noProgram}
+use Rattle.text.specs.Programs.{instrFrom, begun, withInstr, inFrontOf, addProgram, addDo, programKinds, readPrograms}
+use Rattle.text.specs.Schedule.{arriveFrom, turnFrom, isArrive, addArrive, addTurn, scheduleKinds, readSchedule}
+use Rattle.text.specs.Text.{Read, readable, unreadable, Kind, within, count, addLine, readLines, readText}
+use Rattle.text.specs.declared.programs.Instr.{Instr}
+use Rattle.text.specs.declared.programs.Program.{Program}
+use Rattle.text.specs.declared.schedule.Move.the-variants.{Arrive, Turn}
+use Rattle.text.specs.declared.schedule.Move.{Move}
+use Rattle.ordering.specs.Lists.{All}
+use Rattle.ordering.proofs.Basics.{clash}
+use Rattle.ordering.proofs.Lists.{all-append}
+use Rattle.model.specs.Ranges.{arrivalsIn}
+use Rattle.machine.specs.Instance.{codeAt}
+use Rattle.machine.specs.Processes.{instrAt}
+use Rattle.machine.proofs.Bounds.{Word}
+
+-- ── a fact that each kind of line keeps is kept by a whole text ──
+module _ {S : Type 0} (P : S → Type 0) where
+  abbrev Keeps : Kind S → Type 0
+  Keeps k = (x y : S) (vs : List ℕ) → P x → InRanges (k .format .ranges) vs → k .add x vs ≡ some y → P y
+
+  line-keeps : (ks : List (Kind S)) → All Keeps ks → (x y : S) (p : List ℕ) → P x → addLine ks x p ≡ some y → P y
+  unfolding addLine
+  line-keeps [] h x y p g e = clash (cc)
+  line-keeps (k ∷ ks) h x y p g e = by (lineOf (k .format) p) refl e (line-keeps ks (h .1) x y p g)
+    where
+      by : (o : Option (List ℕ)) → lineOf (k .format) p ≡ o → elim o [ some vs ↦ k .add x vs | none ↦ addLine ks x p ] ≡ some y →
+          (addLine ks x p ≡ some y → P y) → P y
+      by (some vs) d e f = h .0 x y vs g (line-range (k .format) p vs d) e
+      by none d e f = f e
+
+  lines-keep : (ks : List (Kind S)) → All Keeps ks → (n : ℕ) (x y : S) (ps : List (List ℕ)) → P x → readLines ks n x ps ≡ readable y → P y
+  unfolding readLines
+  lines-keep ks h n x y [] g e = let z : x ≡ y = cc in subst P z g
+  lines-keep ks h n x y (p ∷ []) g e = by (ltb 0 (length p)) e
+    where
+      by : (b : Bool) → _≡_ {A = Read S} (elim b [ true ↦ unreadable n | false ↦ readable x ]) (readable y) → P y
+      by true e = clash (cc)
+      by false e = let z : x ≡ y = cc in subst P z g
+  lines-keep ks h n x y (p ∷ q ∷ ps) g e = by (addLine ks x p) refl e (λ w. lines-keep ks h (suc n) w y (q ∷ ps))
+    where
+      by : (o : Option S) → addLine ks x p ≡ o → elim o [ some w ↦ readLines ks (suc n) w (q ∷ ps) | none ↦ unreadable n ] ≡ readable y →
+          ((w : S) → P w → readLines ks (suc n) w (q ∷ ps) ≡ readable y → P y) → P y
+      by (some w) d e f = f w (line-keeps ks h x w p g d) e
+      by none d e f = clash (cc)
+
+  text-keeps : (ks : List (Kind S)) → All Keeps ks → (x y : S) (s : List ℕ) → P x → readText ks x s ≡ readable y → P y
+  unfolding readText
+  text-keeps ks h x y s g e = by (ltb 65535 (length s)) e
+    where
+      by : (b : Bool) → elim b [ true ↦ unreadable 0 | false ↦ readLines ks 1 x (parts 10 s) ] ≡ readable y → P y
+      by true e = clash (cc)
+      by false e = lines-keep ks h 1 x y (parts 10 s) g e
+
+-- one more was added where fewer than the limit stood
+within-some : {A : Type 0} (n m : ℕ) (x y : A) → within n m x ≡ some y → (n < m) × (x ≡ y)
+unfolding within
+within-some {A} n m x y e = by (ltb n m) refl e
+  where
+    by : (b : Bool) → ltb n m ≡ b → _≡_ {A = Option A} (elim b [ true ↦ some x | false ↦ none ]) (some y) → (n < m) × (x ≡ y)
+    by true d e = (ltb-true n m d, cc)
+    by false d e = clash (cc)
+
+-- number i is in its range
+range-at : (rs : List Range) (vs : List ℕ) (i : ℕ) → InRanges rs vs → i < length rs → getD vs i 0 ≤ getD rs i any .high
+range-at [] vs i h k = absurd (omega arith)
+range-at (r ∷ rs) [] i h k = absurd h
+range-at (r ∷ rs) (v ∷ vs) zero h k = h .0 .below
+range-at (r ∷ rs) (v ∷ vs) (suc i) h k = range-at rs vs i (h .1) (omega arith)
+
+-- what holds of all items holds at each place, past the end of the default
+all-getD : {A : Type 0} (P : A → Type 0) (d : A) → P d → (xs : List A) → All P xs → (i : ℕ) → P (getD xs i d)
+all-getD P d h [] g i = h
+all-getD P d h (x ∷ xs) g zero = g .0
+all-getD P d h (x ∷ xs) g (suc i) = all-getD P d h xs (g .1) i
+
+-- ── the programs: a constant is a number of 64 bits ──
+abbrev WordInstr : Instr → Type 0
+WordInstr i = Word (i .b)
+
+abbrev WordProgram : Program → Type 0
+WordProgram p = All WordInstr (p .code)
+
+abbrev WordPrograms : List Program → Type 0
+WordPrograms ps = All WordProgram ps
+
+do-keeps : (ps qs : List Program) (vs : List ℕ) → WordPrograms ps → InRanges (doLine .ranges) vs → addDo ps vs ≡ some qs → WordPrograms qs
+unfolding addDo
+do-keeps [] qs vs g h e = clash (cc)
+do-keeps (p ∷ []) qs vs g h e =
+    let k = range-at (doLine .ranges) vs 2 h (omega arith) in
+    subst WordPrograms (within-some (p .n) 64 (withInstr p (instrFrom vs) ∷ []) qs e .1)
+    (all-append WordInstr (p .code) (instrFrom vs ∷ []) (g .0) (omega (arith, k), tt), tt)
+do-keeps (p ∷ q ∷ ps) qs vs g h e = by (addDo (q ∷ ps) vs) refl e (do-keeps (q ∷ ps))
+  where
+    by : (o : Option (List Program)) → addDo (q ∷ ps) vs ≡ o → inFrontOf p o ≡ some qs →
+        ((rs : List Program) (us : List ℕ) → WordPrograms (q ∷ ps) → InRanges (doLine .ranges) us → addDo (q ∷ ps) us ≡ some rs →
+        WordPrograms rs) → WordPrograms qs
+    by (some rs) d e f = let z : p ∷ rs ≡ qs = cc in subst WordPrograms z (g .0, f rs vs (g .1) h d)
+    by none d e f = clash (cc)
+
+program-keeps : Keeps WordPrograms (record { format = programLine; add = addProgram })
+unfolding addProgram
+program-keeps ps qs vs g h e =
+    subst WordPrograms (within-some (length ps) 16 _ _ e .1) (all-append WordProgram ps (begun (getD vs 0 0) ∷ []) g (tt, tt))
+
+pub programs-words : (s : List ℕ) (ps : List Program) → readPrograms s ≡ readable ps →
+    (prog at : ℕ) → Word (instrAt (codeAt ps prog) at .b)
+unfolding readPrograms
+programs-words s ps e prog at =
+    let g = text-keeps WordPrograms programKinds (program-keeps, (do-keeps, tt)) [] ps s tt e in
+    all-getD WordInstr _ (omega arith) (codeAt ps prog) (all-getD WordProgram noProgram tt ps g prog) (at % 64)
+
+-- ── the schedule ──
+abbrev pub MoveIn : Move → Type 0
+MoveIn (Arrive r prog a b) = (r ≤ 65535) × (Word prog × (Word a × Word b))
+MoveIn (Turn r) = Unit {0}
+
+pub record ScheduleIn (ms : List Move) : Type 0 where
+  pub moves : All MoveIn ms
+  pub few : arrivalsIn ms ≤ 64
+
+arrivals-append : (ms ns : List Move) → arrivalsIn (ms ++ ns) ≡ arrivalsIn ms + arrivalsIn ns
+arrivals-append [] ns = omega arith
+arrivals-append (Arrive r prog a b ∷ ms) ns = omega (arith, arrivals-append ms ns)
+arrivals-append (Turn r ∷ ms) ns = arrivals-append ms ns
+
+arrivals-count : (ms : List Move) → count isArrive ms ≡ arrivalsIn ms
+unfolding count
+arrivals-count [] = refl
+arrivals-count (Arrive r prog a b ∷ ms) = ap suc (arrivals-count ms)
+arrivals-count (Turn r ∷ ms) = arrivals-count ms
+
+arrive-keeps : Keeps ScheduleIn (record { format = arriveLine; add = addArrive })
+unfolding addArrive
+arrive-keeps ms ns vs g h e =
+    let at : (i : ℕ) → i < 4 → getD vs i 0 ≤ getD (arriveLine .ranges) i any .high = λ i k. range-at (arriveLine .ranges) vs i h k in
+    let w = within-some (count isArrive ms) 64 _ _ e in
+    let r : getD vs 0 0 ≤ 65535 = at 0 (omega arith) in
+    let prog : Word (getD vs 1 0) = omega (arith, at 1 (omega arith)) in
+    let a : Word (getD vs 2 0) = omega (arith, at 2 (omega arith)) in
+    let b : Word (getD vs 3 0) = omega (arith, at 3 (omega arith)) in
+    subst ScheduleIn (w .1)
+    (record {
+      moves = all-append MoveIn ms (arriveFrom vs ∷ []) (g .moves) ((r, (prog, (a, b))), tt);
+      few = omega (arith, w .0, arrivals-count ms, arrivals-append ms (arriveFrom vs ∷ []));
+    })
+
+turn-keeps : Keeps ScheduleIn (record { format = turnLine; add = addTurn })
+unfolding addTurn
+turn-keeps ms ns vs g h e =
+    let z : ms ++ turnFrom vs ∷ [] ≡ ns = cc in
+    subst ScheduleIn z
+    (record {
+      moves = all-append MoveIn ms (turnFrom vs ∷ []) (g .moves) (tt, tt);
+      few = omega (arith, g .few, arrivals-append ms (turnFrom vs ∷ []));
+    })
+
+pub schedule-in : (s : List ℕ) (ms : List Move) → readSchedule s ≡ readable ms → ScheduleIn ms
+unfolding readSchedule
+schedule-in s ms e =
+    text-keeps ScheduleIn scheduleKinds (arrive-keeps, (turn-keeps, tt)) [] ms s (record { moves = tt; few = omega arith }) e

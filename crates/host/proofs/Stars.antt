@@ -1,0 +1,158 @@
+-- The scope's worked schedules, and the small examples of rows 13 to 16, as texts with what the host makes of them: computed from the
+-- meaning.
+use Prim.Native.Nat.{ℕ, zero, suc}
+use Prim.Native.String.{String}
+use mathlib.Core.List.{List, [], _∷_, _++_, map}
+use mathlib.Core.Path.{_≡_, refl}
+use Rattle.lines.specs.Bytes.{bytes}
+use Rattle.lines.specs.Decimal.{digitsIn, decimal}
+use Rattle.lines.specs.Line.{prefix, fieldOf, fieldsOf, lineOf}
+use Rattle.lines.specs.LineText.{separatorOf, numbersText, lineText}
+use Rattle.lines.specs.Number.{pushOf, digitsOf, numberOf}
+use Rattle.lines.specs.Parts.{onto, parts}
+use Rattle.text.specs.Programs.{addProgram, addDo, readPrograms}
+use Rattle.text.specs.Report.{ofText, entryText, reportText}
+use Rattle.text.specs.Schedule.{addArrive, addTurn, readSchedule}
+use Rattle.text.specs.Text.{within, count, linesText, addLine, readLines, readText}
+use Rattle.text.specs.Trace.{eventText, traceText}
+use Rattle.ordering.specs.Maps.{upd}
+use Rattle.model.specs.Host.{Result, fault, made}
+use Rattle.machine.specs.Instructions.{effectAs}
+use Rattle.machine.specs.Processes.{go}
+use Rattle.machine.specs.Rules.{instructions, programs}
+use Rattle.host.specs.Recorded.{Texts, batchOf, recordOf, resultOf}
+use Rattle.host.specs.declared.Recorded.{Recorded}
+
+abbrev text : List String → List ℕ
+text [] = []
+text (l ∷ ls) = bytes l ++ 10 ∷ text ls
+
+-- programs and a schedule as their lines, the room for the two texts, and what the host makes of them
+record Case : Type 0 where
+  programLines : List String
+  scheduleLines : List String
+  roomForTrace : ℕ
+  roomForReport : ℕ
+  makes : Result Texts
+
+abbrev case : (programs schedule : List String) → (roomForTrace roomForReport : ℕ) → Result Texts → Case
+case programs schedule m n r =
+    record { programLines = programs; scheduleLines = schedule; roomForTrace = m; roomForReport = n; makes = r }
+
+abbrev records : Case → Result Texts
+records c = recordOf (text (c .programLines)) (text (c .scheduleLines)) (c .roomForTrace) (c .roomForReport)
+
+abbrev writes : (trace report : List String) → Result Texts
+writes trace report = made (record { trace = text trace; report = text report })
+
+-- ── C's schedule, and the program that never replies ──
+abbrev programsC : List String
+programsC =
+    "program=0" ∷ "do=1,2,1,0" ∷ "do=7,0,2,0" ∷ "do=6,0,1,0" ∷ "do=0,0,0,0"
+    ∷ "program=1" ∷ "do=1,2,1,0" ∷ "do=7,1,2,0" ∷ "do=6,0,0,0" ∷ "do=0,0,0,0" ∷ []
+
+abbrev scheduleC : List String
+scheduleC = "arrive=1,0,0,0" ∷ "arrive=2,1,0,0" ∷ "turn=1" ∷ "turn=2" ∷ "turn=1" ∷ "turn=2" ∷ "turn=1" ∷ "turn=2" ∷ []
+
+abbrev writesC : Result Texts
+writesC =
+    writes ("request=1,0,0,0" ∷ "request=2,1,0,0" ∷ "response=1,0,1" ∷ "response=2,0,1" ∷ [])
+    ("of=1,0,2" ∷ "of=2,1,2" ∷ "log=0,1,1,7,0,1" ∷ "log=0,2,2,6,0,0" ∷ "log=1,2,1,7,0,1" ∷ "log=1,1,2,6,0,0" ∷ [])
+
+abbrev programsLoop : List String
+programsLoop = "program=0" ∷ "do=1,2,1,0" ∷ "do=5,2,0,0" ∷ "do=0,0,0,0" ∷ []
+
+abbrev cases : List Case
+cases =
+    case programsC scheduleC 65535 65535 writesC
+    ∷ case programsLoop ("arrive=1,0,0,0" ∷ "turn=1" ∷ []) 65535 65535
+    (writes ("request=1,0,0,0" ∷ "response=1,1,0" ∷ []) ("of=1,0,0" ∷ []))
+    ∷ []
+
+stars : map records cases ≡ map (λ c. c .makes) cases
+unfolding recordOf batchOf readPrograms readSchedule readText readLines addLine lineOf fieldsOf fieldOf prefix numberOf digitsOf pushOf
+    parts onto within count addProgram addDo addArrive addTurn programs instructions go effectAs upd
+    traceText reportText linesText eventText ofText entryText lineText numbersText separatorOf decimal digitsIn
+stars = refl
+
+-- ── the small examples of rows 1, 2 and 13 to 16 ──
+abbrev replies : List String
+replies = "program=0" ∷ "do=0,0,0,0" ∷ []
+
+-- C's trace has 62 bytes, its report 82
+abbrev small : List Case
+small =
+    case ("do=1,2" ∷ []) ("turn=1," ∷ []) 0 0 (fault 1 1)
+    ∷ case ("program=0" ∷ "do=0,8,0,0" ∷ []) ("turn=1," ∷ []) 0 0 (fault 2 2)
+    ∷ case [] ("turn=1," ∷ []) 0 0 (fault 13 1)
+    ∷ case [] ("turn=1" ∷ []) 0 0 (fault 14 1)
+    ∷ case replies ("arrive=1,0,0,0" ∷ "turn=1" ∷ "arrive=1,0,0,0" ∷ []) 0 0 (fault 14 3)
+    ∷ case replies ("arrive=1,1,0,0" ∷ []) 0 0 (fault 14 1)
+    ∷ case replies ("arrive=1,0,0,0" ∷ []) 0 0 (fault 15 1)
+    ∷ case replies ("arrive=1,0,0,0" ∷ "turn=1" ∷ "arrive=2,0,0,0" ∷ "arrive=3,0,0,0" ∷ []) 0 0 (fault 15 3)
+    ∷ case programsC scheduleC 10 65535 (fault 16 0)
+    ∷ case programsC scheduleC 61 82 (fault 16 0)
+    ∷ case programsC scheduleC 62 81 (fault 16 0)
+    -- room to the byte
+    ∷ case programsC scheduleC 62 82 writesC
+    -- a turn behind the response does nothing
+    ∷ case replies ("arrive=1,0,7,0" ∷ "turn=1" ∷ "turn=1" ∷ []) 31 9
+    (writes ("request=1,0,7,0" ∷ "response=1,0,7" ∷ []) ("of=1,0,0" ∷ []))
+    ∷ case [] [] 0 0 (writes [] [])
+    ∷ []
+
+rows-13-to-16 : map records small ≡ map (λ c. c .makes) small
+unfolding recordOf batchOf readPrograms readSchedule readText readLines addLine lineOf fieldsOf fieldOf prefix numberOf digitsOf pushOf
+    parts onto within count addProgram addDo addArrive addTurn programs instructions go effectAs upd
+    traceText reportText linesText eventText ofText entryText lineText numbersText separatorOf decimal digitsIn
+rows-13-to-16 = refl
+
+-- ── the edges: a program that reads as each second instruction, so that the 128th operation is the 256th instruction ──
+abbrev reading : List String
+reading = "program=0" ∷ "do=1,2,1,0" ∷ "do=6,3,0,0" ∷ "do=5,2,1,0" ∷ "do=0,0,0,0" ∷ []
+
+abbrev times : ℕ → String → List String → List String
+times zero l ls = ls
+times (suc n) l ls = l ∷ times n l ls
+
+abbrev results : (schedule : List String) → Recorded
+results schedule = resultOf (recordOf (text reading) (text schedule) 65535 65535)
+
+abbrev recordedAs : (verdict line trace report : ℕ) → Recorded
+recordedAs verdict line trace report = record { verdict = verdict; line = line; «trace_len» = trace; «report_len» = report }
+
+-- it is carried out and logged, and the next turn cuts
+last-instruction : results ("arrive=1,0,0,0" ∷ times 129 "turn=1" []) ≡ recordedAs 0 0 31 2207
+unfolding recordOf batchOf readPrograms readSchedule readText readLines addLine lineOf fieldsOf fieldOf prefix numberOf digitsOf pushOf
+    parts onto within count addProgram addDo addArrive addTurn programs instructions go effectAs upd
+    traceText reportText linesText eventText ofText entryText lineText numbersText separatorOf decimal digitsIn
+last-instruction = refl
+
+still-open : results ("arrive=1,0,0,0" ∷ times 128 "turn=1" []) ≡ recordedAs 15 1 0 0
+unfolding recordOf batchOf readPrograms readSchedule readText readLines addLine lineOf fieldsOf fieldOf prefix numberOf digitsOf pushOf
+    parts onto within count addProgram addDo addArrive addTurn programs instructions go effectAs upd
+    traceText reportText linesText eventText ofText entryText lineText numbersText separatorOf decimal digitsIn
+still-open = refl
+
+-- 1,024 operations of eight requests pass; the ninth's first is one too many
+abbrev turnsOf8 : List String → List String
+turnsOf8 ls =
+    times 128 "turn=1" (times 128 "turn=2" (times 128 "turn=3" (times 128 "turn=4"
+    (times 128 "turn=5" (times 128 "turn=6" (times 128 "turn=7" (times 128 "turn=8" ls)))))))
+
+abbrev nine : List String → List String
+nine ls =
+    "arrive=1,0,0,0" ∷ "arrive=2,0,0,0" ∷ "arrive=3,0,0,0" ∷ "arrive=4,0,0,0" ∷ "arrive=5,0,0,0" ∷ "arrive=6,0,0,0"
+    ∷ "arrive=7,0,0,0" ∷ "arrive=8,0,0,0" ∷ "arrive=9,0,0,0" ∷ ls
+
+one-too-many : results (nine (turnsOf8 ("turn=9" ∷ []))) ≡ recordedAs 14 1034 0 0
+unfolding recordOf batchOf readPrograms readSchedule readText readLines addLine lineOf fieldsOf fieldOf prefix numberOf digitsOf pushOf
+    parts onto within count addProgram addDo addArrive addTurn programs instructions go effectAs upd
+    traceText reportText linesText eventText ofText entryText lineText numbersText separatorOf decimal digitsIn
+one-too-many = refl
+
+enough : results (nine (turnsOf8 [])) ≡ recordedAs 15 1 0 0
+unfolding recordOf batchOf readPrograms readSchedule readText readLines addLine lineOf fieldsOf fieldOf prefix numberOf digitsOf pushOf
+    parts onto within count addProgram addDo addArrive addTurn programs instructions go effectAs upd
+    traceText reportText linesText eventText ofText entryText lineText numbersText separatorOf decimal digitsIn
+enough = refl

@@ -1,0 +1,5 @@
+-- The definitions, in reading order.
+pub mod Recorded
+pub mod Accepted
+-- What private functions promise
+pub mod Steps

@@ -1,0 +1,12 @@
+// The reference host: the run of a schedule, and the trace and the report that it writes.
+mod logs;
+mod outputs;
+mod turns;
+
+// What the host comes to: the number of the verdict with its line, and how long the two texts are that it wrote, both 0 on a refusal.
+pub struct Recorded {
+    pub verdict: u64,
+    pub line: u64,
+    pub trace_len: usize,
+    pub report_len: usize,
+}
