@@ -6,7 +6,8 @@
 
 use crate::random::{interleave, Random};
 use crate::texts::{
-    read_report, write_report, BatchTexts, Report, LOG_LIMIT, REQUEST_LIMIT, TEXT_LIMIT,
+    read_report, read_trace, write_report, write_trace, BatchTexts, Event, Report, Response,
+    LOG_LIMIT, REQUEST_LIMIT, TEXT_LIMIT,
 };
 
 /// Numbers at the ends of the ranges, and some that no text can hold.
@@ -52,10 +53,11 @@ const BYTES: [u8; 20] = [
 pub fn damage_batch(random: &mut Random, batch: &mut BatchTexts) {
     for _ in 0..*random.pick(&[1, 1, 1, 2, 3]) {
         match random.below(100) {
-            0..=9 => damage_text(random, &mut batch.programs),
-            10..=24 => damage_text(random, &mut batch.trace),
-            25..=44 => exchange_neighbours(random, &mut batch.trace),
-            45..=59 => damage_text(random, &mut batch.report),
+            0..=7 => damage_text(random, &mut batch.programs),
+            8..=17 => damage_text(random, &mut batch.trace),
+            18..=34 => exchange_neighbours(random, &mut batch.trace),
+            35..=39 => change_response(random, &mut batch.trace),
+            40..=51 => damage_text(random, &mut batch.report),
             _ => damage_report(random, &mut batch.report),
         }
     }
@@ -83,9 +85,9 @@ fn damage_report(random: &mut Random, text: &mut Vec<u8>) {
     match random.below(10) {
         0..=3 => exchange_in_log(random, &mut report),
         4 => report = interleave(random, &report),
-        5 => join_groups(random, &mut report),
-        6 => change_count(random, &mut report),
-        7 => renumber(random, &mut report),
+        5..=6 => join_groups(random, &mut report),
+        7 => change_count(random, &mut report),
+        8 => renumber(random, &mut report),
         _ => change_log_line(random, &mut report),
     }
     *text = write_report(&report);
@@ -199,6 +201,30 @@ fn exchange_neighbours(random: &mut Random, text: &mut Vec<u8>) {
     let upper = random.below(lines.len() - 1);
     lines.swap(upper, upper + 1);
     *text = lines.concat();
+}
+
+/// Changes the status or the value of a response.
+fn change_response(random: &mut Random, text: &mut Vec<u8>) {
+    let Ok(mut trace) = read_trace(text) else {
+        return damage_text(random, text);
+    };
+    let mut responses: Vec<&mut Response> = trace
+        .iter_mut()
+        .filter_map(|event| match event {
+            Event::Response(response) => Some(response),
+            Event::Request(_) => None,
+        })
+        .collect();
+    if responses.is_empty() {
+        return;
+    }
+    let place = random.below(responses.len());
+    if random.percent(30) {
+        responses[place].status ^= 1;
+    } else {
+        responses[place].value = random.below(4) as u64;
+    }
+    *text = write_trace(&trace);
 }
 
 /// Exchanges two neighbours in one object's log, wherever their lines stand.

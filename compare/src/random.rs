@@ -107,7 +107,12 @@ pub fn programs(random: &mut Random, size: Size) -> Vec<Program> {
 }
 
 fn program(random: &mut Random, number: u64, size: Size) -> Program {
-    let length = random.between(1, size.instructions);
+    let least = if random.percent(80) {
+        size.instructions / 2
+    } else {
+        1
+    };
+    let length = random.between(least, size.instructions);
     let mut instructions: Vec<Instruction> = (1..length)
         .map(|_| instruction(random, length, size.jumps))
         .collect();
@@ -183,7 +188,8 @@ pub fn schedule<'a>(
 }
 
 fn arrivals(random: &mut Random, programs: usize, size: Size) -> Vec<Request> {
-    let count = random.between(0, size.requests);
+    let least = if random.percent(90) { 2 } else { 0 };
+    let count = random.between(least, size.requests);
     let mut rids: Vec<u64> = (0..count as u64).collect();
     if random.percent(30) {
         let spread = 65_535 / size.requests as u64;
