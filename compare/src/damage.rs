@@ -82,7 +82,7 @@ fn damage_report(random: &mut Random, text: &mut Vec<u8>) {
     let Ok(mut report) = read_report(text) else {
         return damage_text(random, text);
     };
-    match random.below(10) {
+    match random.below(13) {
         0..=3 => exchange_in_log(random, &mut report),
         4 => report = interleave(random, &report),
         5..=6 => join_groups(random, &mut report),
@@ -296,11 +296,11 @@ fn change_log_line(random: &mut Random, report: &mut Report) {
     let place = random.below(report.log.len());
     let small = random.below(4) as u64;
     let line = &mut report.log[place];
-    match random.below(5) {
+    match random.below(7) {
         0 => line.value = small,
-        1 => line.key = small,
-        2 => line.kind = 6 + small,
-        3 => line.object = (line.object + 8) % 16,
+        1..=2 => line.key = small,
+        3..=4 => line.kind = 6 + small,
+        5 => line.object = (line.object + 8) % 16,
         _ => line.object = small,
     }
 }

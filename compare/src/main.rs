@@ -155,7 +155,9 @@ fn compare(checks: &[Check], options: &Options) -> ExitCode {
             None => passed += 1,
             Some(check) => {
                 failed += 1;
-                tell(case, *check, &options.out);
+                if failed <= TOLD {
+                    tell(case, *check, &options.out);
+                }
             }
         }
     }
@@ -167,6 +169,9 @@ fn compare(checks: &[Check], options: &Options) -> ExitCode {
         ExitCode::FAILURE
     }
 }
+
+/// So many differences are reduced and written; the others are counted.
+const TOLD: usize = 20;
 
 /// Reduces a difference, writes it to a folder of its own and says where.
 fn tell(case: Case, check: Check, out: &Path) {

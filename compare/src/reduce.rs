@@ -1,4 +1,4 @@
-//! A difference made small: lines are dropped while it stays.
+//! A difference made small: lines are dropped while it stays, for a bounded number of tries.
 
 use crate::cases::Case;
 use crate::checks::Check;
@@ -12,14 +12,18 @@ pub fn reduce(mut case: Case, check: Check) -> Case {
     if case.expected.is_some() {
         return case;
     }
+    let mut tries = TRIES;
     while let Some(smaller) = TEXTS
         .into_iter()
-        .find_map(|text| with_fewer_lines(&case, text, check))
+        .find_map(|text| with_fewer_lines(&case, text, check, &mut tries))
     {
         case = smaller;
     }
     case
 }
+
+/// A text may have tens of thousands of lines, and a try may search for an order.
+const TRIES: usize = 1_000;
 
 /// Picks one text of a case.
 type Text = fn(&mut Case) -> &mut Vec<u8>;
@@ -32,13 +36,14 @@ const TEXTS: [Text; 4] = [
 ];
 
 /// The case with a stretch of lines of one text left out, long stretches first.
-fn with_fewer_lines(case: &Case, text: Text, check: Check) -> Option<Case> {
+fn with_fewer_lines(case: &Case, text: Text, check: Check, tries: &mut usize) -> Option<Case> {
     let mut shorter = case.clone();
     let whole = text(&mut shorter).clone();
     let lines: Vec<&[u8]> = whole.split_inclusive(|&byte| byte == b'\n').collect();
     let halves = std::iter::successors(Some(lines.len()), |length| Some(length / 2));
     for length in halves.take_while(|length| *length > 0) {
         for start in (0..=lines.len() - length).step_by(length) {
+            *tries = tries.checked_sub(1)?;
             *text(&mut shorter) = [&lines[..start], &lines[start + length..]]
                 .concat()
                 .concat();
