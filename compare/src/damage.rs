@@ -82,12 +82,13 @@ fn damage_report(random: &mut Random, text: &mut Vec<u8>) {
     let Ok(mut report) = read_report(text) else {
         return damage_text(random, text);
     };
-    match random.below(13) {
+    match random.below(15) {
         0..=3 => exchange_in_log(random, &mut report),
         4 => report = interleave(random, &report),
         5..=6 => join_groups(random, &mut report),
         7 => change_count(random, &mut report),
         8 => renumber(random, &mut report),
+        9..=10 => misstate_feeding_line(random, &mut report),
         _ => change_log_line(random, &mut report),
     }
     *text = write_report(&report);
@@ -287,6 +288,29 @@ fn renumber(random: &mut Random, report: &mut Report) {
     let claim = (report.log[one].rid, report.log[one].num);
     (report.log[one].rid, report.log[one].num) = (report.log[other].rid, report.log[other].num);
     (report.log[other].rid, report.log[other].num) = claim;
+}
+
+/// Changes key or kind of a line that stands right above one of an earlier request in its object's log: what
+/// the earlier request reads then depends on whether the line still counts as a write, and it is looked at
+/// before the fault of the line itself.
+fn misstate_feeding_line(random: &mut Random, report: &mut Report) {
+    let arrival = |rid| report.of.iter().position(|of| of.rid == rid);
+    let feeds = |&place: &usize| {
+        let upper = &report.log[place];
+        let mut below = report.log[place + 1..].iter();
+        let lower = below.find(|line| line.object == upper.object);
+        lower.is_some_and(|lower| arrival(lower.rid) < arrival(upper.rid))
+    };
+    let places: Vec<usize> = (0..report.log.len()).filter(feeds).collect();
+    if places.is_empty() {
+        return;
+    }
+    let line = &mut report.log[*random.pick(&places)];
+    if random.percent(50) {
+        line.key = random.between(1, 3) as u64;
+    } else {
+        line.kind = random.between(6, 9) as u64;
+    }
 }
 
 fn change_log_line(random: &mut Random, report: &mut Report) {
