@@ -1,0 +1,343 @@
+//! The audit: verdicts 0 to 12 over programs, trace and report.
+//!
+//! Each check hands on what the next ones need, so their order in `checked` is the order of the verdicts.
+
+use crate::machine::{broken_rule, Objects, Operation, Path, Pause, Running};
+use crate::texts::{
+    read_programs, read_report, read_trace, Event, LogLine, OfLine, Program, Report, Request,
+    Response, Unreadable,
+};
+use std::collections::HashMap;
+
+/// A refusal: its verdict and the line that it names.
+#[derive(Clone, Copy, Debug, PartialEq, Eq)]
+pub struct Fault {
+    pub verdict: u64,
+    pub line: usize,
+}
+
+impl Fault {
+    pub fn new(verdict: u64, line: usize) -> Fault {
+        Fault { verdict, line }
+    }
+
+    pub fn unreadable(verdict: u64) -> impl Fn(Unreadable) -> Fault {
+        move |Unreadable(line)| Fault { verdict, line }
+    }
+}
+
+#[derive(Clone, Copy, Debug, PartialEq, Eq)]
+pub struct Audited {
+    pub verdict: u64,
+    pub line: usize,
+    pub requests: usize,
+    pub operations: usize,
+}
+
+/// Verdict, line and counts of a batch.
+pub fn audit(programs: &[u8], trace: &[u8], report: &[u8]) -> Audited {
+    match checked(programs, trace, report) {
+        Ok(batch) => Audited {
+            verdict: 0,
+            line: 0,
+            requests: batch.requests.len(),
+            operations: batch.report.log.len(),
+        },
+        Err(Fault { verdict, line }) => Audited {
+            verdict,
+            line,
+            requests: 0,
+            operations: 0,
+        },
+    }
+}
+
+fn checked(programs: &[u8], trace: &[u8], report: &[u8]) -> Result<Batch, Fault> {
+    let batch = read_batch(programs, trace, report)?;
+    let claims = claims(&batch.report)?;
+    every_operation_claimed(&batch.report, &claims)?;
+    if order_returns(&batch, &claims) {
+        return Err(Fault::new(9, 0));
+    }
+    replay_all(&batch, &claims)?;
+    Ok(batch)
+}
+
+/// A batch whose texts are readable and keep the rules.
+pub struct Batch {
+    pub programs: Vec<Program>,
+    pub trace: Vec<Event>,
+    pub report: Report,
+    /// The requests of the trace in arrival order, each with its response.
+    pub requests: Vec<(Request, Response)>,
+}
+
+/// The texts read and held against rows 1 to 6.
+pub fn read_batch(programs: &[u8], trace: &[u8], report: &[u8]) -> Result<Batch, Fault> {
+    let programs = checked_programs(programs)?;
+    let trace = read_trace(trace).map_err(Fault::unreadable(3))?;
+    let requests = answered_requests(&trace, programs.len())?;
+    let report = read_report(report).map_err(Fault::unreadable(5))?;
+    one_of_line_per_request(&report.of, &requests)?;
+    Ok(Batch {
+        programs,
+        trace,
+        report,
+        requests,
+    })
+}
+
+/// Rows 1 and 2, which the host shares.
+pub fn checked_programs(text: &[u8]) -> Result<Vec<Program>, Fault> {
+    let programs = read_programs(text).map_err(Fault::unreadable(1))?;
+    match broken_rule(&programs) {
+        Some(line) => Err(Fault::new(2, line)),
+        None => Ok(programs),
+    }
+}
+
+/// Row 4: faults of lines first, then the earliest request that was never answered.
+fn answered_requests(trace: &[Event], programs: usize) -> Result<Vec<(Request, Response)>, Fault> {
+    let mut requests: HashMap<u64, Request> = HashMap::new();
+    let mut responses: HashMap<u64, Response> = HashMap::new();
+    for (line, event) in (1..).zip(trace) {
+        let faulty = match event {
+            Event::Request(request) => {
+                requests.insert(request.rid, *request).is_some()
+                    || request.program >= programs as u64
+            }
+            Event::Response(response) => {
+                !requests.contains_key(&response.rid)
+                    || responses.insert(response.rid, *response).is_some()
+            }
+        };
+        if faulty {
+            return Err(Fault::new(4, line));
+        }
+    }
+    let mut answered = Vec::new();
+    for (line, event) in (1..).zip(trace) {
+        if let Event::Request(request) = event {
+            let response = responses.get(&request.rid).ok_or(Fault::new(4, line))?;
+            answered.push((*request, *response));
+        }
+    }
+    Ok(answered)
+}
+
+/// Row 6.
+fn one_of_line_per_request(of: &[OfLine], requests: &[(Request, Response)]) -> Result<(), Fault> {
+    for (index, line) in of.iter().enumerate() {
+        let expected = requests.get(index).map(|(request, _)| request.rid);
+        if expected != Some(line.rid) {
+            return Err(Fault::new(6, index + 1));
+        }
+    }
+    if of.len() < requests.len() {
+        return Err(Fault::new(6, of.len() + 1));
+    }
+    Ok(())
+}
+
+/// For each rid and number the place of the log line that claims this operation.
+type Claims = HashMap<(u64, u64), usize>;
+
+/// Row 7.
+fn claims(report: &Report) -> Result<Claims, Fault> {
+    let counts: HashMap<u64, u64> = report.of.iter().map(|of| (of.rid, of.count)).collect();
+    let mut claims = Claims::new();
+    for (index, line) in report.log.iter().enumerate() {
+        let within_count = counts
+            .get(&line.rid)
+            .is_some_and(|count| (1..=*count).contains(&line.num));
+        if !within_count || claims.insert((line.rid, line.num), index).is_some() {
+            return Err(Fault::new(7, report.line_of_log(index)));
+        }
+    }
+    Ok(claims)
+}
+
+/// Row 8.
+fn every_operation_claimed(report: &Report, claims: &Claims) -> Result<(), Fault> {
+    for (line, of) in (1..).zip(&report.of) {
+        if !(1..=of.count).all(|num| claims.contains_key(&(of.rid, num))) {
+            return Err(Fault::new(8, line));
+        }
+    }
+    Ok(())
+}
+
+/// Row 9: whether some chain of "comes before" returns to its start.
+///
+/// The nodes are the events of the trace and, behind them, the log lines, each of which stands for the
+/// operation that it claims.
+fn order_returns(batch: &Batch, claims: &Claims) -> bool {
+    let events = batch.trace.len();
+    let mut graph = Graph::new(events + batch.report.log.len());
+    graph.chain(0..events);
+    for of in &batch.report.of {
+        let request = place_of(
+            &batch.trace,
+            |event| matches!(event, Event::Request(r) if r.rid == of.rid),
+        );
+        let response = place_of(
+            &batch.trace,
+            |event| matches!(event, Event::Response(r) if r.rid == of.rid),
+        );
+        let operations = (1..=of.count).map(|num| events + claims[&(of.rid, num)]);
+        graph.chain([request].into_iter().chain(operations).chain([response]));
+    }
+    for object in 0..16 {
+        let lines = batch.report.log.iter().enumerate();
+        graph.chain(
+            lines
+                .filter(|(_, line)| line.object == object)
+                .map(|(index, _)| events + index),
+        );
+    }
+    graph.has_cycle()
+}
+
+fn place_of(trace: &[Event], wanted: impl Fn(&Event) -> bool) -> usize {
+    trace
+        .iter()
+        .position(wanted)
+        .expect("row 4 leaves one request and one response for each rid")
+}
+
+struct Graph {
+    successors: Vec<Vec<usize>>,
+}
+
+#[derive(Clone, Copy, PartialEq, Eq)]
+enum Visit {
+    NotYet,
+    UnderWay,
+    Done,
+}
+
+impl Graph {
+    fn new(nodes: usize) -> Graph {
+        Graph {
+            successors: vec![Vec::new(); nodes],
+        }
+    }
+
+    /// Each node of the chain comes before the next.
+    fn chain(&mut self, nodes: impl IntoIterator<Item = usize>) {
+        let mut before = None;
+        for node in nodes {
+            if let Some(before) = before.replace(node) {
+                self.successors[before].push(node);
+            }
+        }
+    }
+
+    fn has_cycle(&self) -> bool {
+        let mut visits = vec![Visit::NotYet; self.successors.len()];
+        (0..visits.len()).any(|node| self.returns_from(node, &mut visits))
+    }
+
+    /// Depth-first: an edge to a node that is still under way closes a cycle. A path has at most 128
+    /// events and 1,024 operations, so recursion is deep enough and no deeper.
+    fn returns_from(&self, node: usize, visits: &mut [Visit]) -> bool {
+        match visits[node] {
+            Visit::UnderWay => return true,
+            Visit::Done => return false,
+            Visit::NotYet => visits[node] = Visit::UnderWay,
+        }
+        let returns = self.successors[node]
+            .iter()
+            .any(|&next| self.returns_from(next, visits));
+        visits[node] = Visit::Done;
+        returns
+    }
+}
+
+/// Rows 10, 11 and 12, request by request in arrival order.
+fn replay_all(batch: &Batch, claims: &Claims) -> Result<(), Fault> {
+    let answers = answers(&batch.report.log);
+    let mut first_paths: HashMap<u64, Path> = HashMap::new();
+    for (index, (request, response)) in batch.requests.iter().enumerate() {
+        let line = index + 1;
+        let of = &batch.report.of[index];
+        let replayed =
+            replay(batch, claims, &answers, request, of.count).ok_or(Fault::new(10, line))?;
+        if replayed.response != *response {
+            return Err(Fault::new(11, line));
+        }
+        let first = first_paths
+            .entry(of.group)
+            .or_insert_with(|| replayed.path.clone());
+        if *first != replayed.path {
+            return Err(Fault::new(12, line));
+        }
+    }
+    Ok(())
+}
+
+/// For each log line what its cell holds by the lines above it: the value that a read there takes.
+fn answers(log: &[LogLine]) -> Vec<u64> {
+    let mut objects = Objects::default();
+    log.iter()
+        .map(|line| objects.perform(Operation::claimed_by(line)))
+        .collect()
+}
+
+struct Replayed {
+    response: Response,
+    path: Path,
+}
+
+/// The request run against the logs; `None` where an operation or the count differs.
+fn replay(
+    batch: &Batch,
+    claims: &Claims,
+    answers: &[u64],
+    request: &Request,
+    count: u64,
+) -> Option<Replayed> {
+    let mut running = Running::open(&batch.programs, request);
+    loop {
+        match running.go_on() {
+            Pause::Operation(operation) => {
+                let index = *claims.get(&(request.rid, running.operations()))?;
+                if Operation::claimed_by(&batch.report.log[index]) != operation {
+                    return None;
+                }
+                running.answer(answers[index]);
+            }
+            Pause::End { status, value } => {
+                let response = Response {
+                    rid: request.rid,
+                    status,
+                    value,
+                };
+                let path = running.path();
+                return (running.operations() == count).then_some(Replayed { response, path });
+            }
+        }
+    }
+}
+
+#[cfg(test)]
+mod tests {
+    use super::*;
+    use crate::worked::{self, Case};
+
+    #[test]
+    fn worked_batches_have_their_verdicts() {
+        for Case {
+            name,
+            batch,
+            expected,
+        } in worked::batches()
+        {
+            assert_eq!(
+                audit(&batch.programs, &batch.trace, &batch.report),
+                expected,
+                "{name}"
+            );
+        }
+    }
+}

@@ -1,0 +1,77 @@
+//! The cases of a comparison, each made from its number and a seed.
+
+use crate::audit::Audited;
+use crate::damage::{damage_batch, damage_text};
+use crate::random::{self, Random, Run};
+use crate::texts::{BatchTexts, TEXT_LIMIT};
+use crate::worked;
+
+/// The seed of the cases that are the same in every comparison.
+pub const FIXED_SEED: u64 = 1;
+
+/// A batch for the audit, and a schedule with the room for what it means for the host; both over the same
+/// programs.
+#[derive(Clone, Debug)]
+pub struct Case {
+    pub name: String,
+    pub batch: BatchTexts,
+    pub schedule: Vec<u8>,
+    pub room_trace: usize,
+    pub room_report: usize,
+    /// The audit's result, where the paper gives it.
+    pub expected: Option<Audited>,
+}
+
+/// So many cases: the worked ones, then half of them from the fixed seed and the rest from this one.
+pub fn cases(count: usize, seed: u64) -> impl Iterator<Item = Case> {
+    let fixed = (0..count.div_ceil(2) as u64).map(|number| random_case(FIXED_SEED, number));
+    let varied = (0..).map(move |number| random_case(seed, number));
+    worked_cases().chain(fixed).chain(varied).take(count)
+}
+
+fn worked_cases() -> impl Iterator<Item = Case> {
+    worked::batches().into_iter().map(|case| Case {
+        name: case.name.replace([' ', ','], "-"),
+        batch: case.batch,
+        schedule: worked::SCHEDULE_OF_C.to_vec(),
+        room_trace: TEXT_LIMIT,
+        room_report: TEXT_LIMIT,
+        expected: Some(case.expected),
+    })
+}
+
+fn random_case(seed: u64, number: u64) -> Case {
+    let mut random = Random::new(Random::new(seed).next() ^ number);
+    let size = random::size(&mut random);
+    let Run {
+        mut schedule,
+        mut batch,
+    } = random::run(&mut random, size);
+    let room_trace = room(&mut random, batch.trace.len());
+    let room_report = room(&mut random, batch.report.len());
+    if random.percent(85) {
+        damage_batch(&mut random, &mut batch);
+    }
+    if random.percent(50) {
+        damage_text(&mut random, &mut schedule);
+    }
+    Case {
+        name: format!("seed-{seed}-case-{number}"),
+        batch,
+        schedule,
+        room_trace,
+        room_report,
+        expected: None,
+    }
+}
+
+/// Enough room most of the time, else a length around the one that is needed, or none.
+fn room(random: &mut Random, needed: usize) -> usize {
+    match random.below(10) {
+        0..=5 => TEXT_LIMIT,
+        6 => needed.saturating_sub(1),
+        7 => needed,
+        8 => needed + 1,
+        _ => random.below(needed + 1),
+    }
+}

@@ -1,0 +1,357 @@
+//! Damage done to texts: what a careless or a lying host, a broken transfer or a hand edit may leave.
+//!
+//! Some damage knows nothing of the forms (bytes), some keeps a line readable (a number exchanged), some
+//! keeps a whole batch readable (neighbours in a log exchanged, requests put into one group), so that every
+//! verdict is reached.
+
+use crate::random::{interleave, Random};
+use crate::texts::{
+    read_report, read_trace, write_report, write_trace, BatchTexts, Event, Report, Response,
+    LOG_LIMIT, REQUEST_LIMIT, TEXT_LIMIT,
+};
+
+/// Numbers at the ends of the ranges, and some that no text can hold.
+const EDGES: [&str; 29] = [
+    "0",
+    "1",
+    "2",
+    "5",
+    "6",
+    "7",
+    "8",
+    "9",
+    "10",
+    "15",
+    "16",
+    "17",
+    "63",
+    "64",
+    "65",
+    "255",
+    "256",
+    "257",
+    "65535",
+    "65536",
+    "9223372036854775808",
+    "18446744073709551614",
+    "18446744073709551615",
+    "18446744073709551616",
+    "18446744073709551617",
+    "99999999999999999999",
+    "184467440737095516150",
+    "340282366920938463463374607431768211456",
+    "",
+];
+
+/// Bytes that mean something in a line, or nearly do.
+const BYTES: [u8; 20] = [
+    b'0', b'1', b'2', b'9', b',', b'=', b'\n', b'\r', b' ', b'-', b'+', b'/', b':', b'd', b'l',
+    b'o', b'r', b'L', 0, 255,
+];
+
+/// Damages a batch in one to three places.
+pub fn damage_batch(random: &mut Random, batch: &mut BatchTexts) {
+    for _ in 0..*random.pick(&[1, 1, 1, 2, 3]) {
+        match random.below(100) {
+            0..=7 => damage_text(random, &mut batch.programs),
+            8..=17 => damage_text(random, &mut batch.trace),
+            18..=34 => exchange_neighbours(random, &mut batch.trace),
+            35..=39 => change_response(random, &mut batch.trace),
+            40..=51 => damage_text(random, &mut batch.report),
+            _ => damage_report(random, &mut batch.report),
+        }
+    }
+}
+
+/// Damages a text without regard to what it says.
+pub fn damage_text(random: &mut Random, text: &mut Vec<u8>) {
+    match random.below(100) {
+        0..=14 => change_byte(random, text),
+        15..=19 => {
+            text.pop();
+        }
+        20..=22 => fill_to_the_limit(random, text),
+        23..=27 => repeat_beyond_a_count(random, text),
+        28..=74 => change_number(random, text),
+        _ => change_lines(random, text),
+    }
+}
+
+/// Damages a report so that it often stays readable; another report where it cannot be read.
+fn damage_report(random: &mut Random, text: &mut Vec<u8>) {
+    let Ok(mut report) = read_report(text) else {
+        return damage_text(random, text);
+    };
+    match random.below(15) {
+        0..=3 => exchange_in_log(random, &mut report),
+        4 => report = interleave(random, &report),
+        5..=6 => join_groups(random, &mut report),
+        7 => change_count(random, &mut report),
+        8 => renumber(random, &mut report),
+        9..=10 => misstate_feeding_line(random, &mut report),
+        _ => change_log_line(random, &mut report),
+    }
+    *text = write_report(&report);
+}
+
+fn change_byte(random: &mut Random, text: &mut Vec<u8>) {
+    let place = random.below(text.len() + 1);
+    let byte = *random.pick(&BYTES);
+    match random.below(3) {
+        0 => text.insert(place, byte),
+        _ if place == text.len() => text.push(byte),
+        1 => text[place] = byte,
+        _ => {
+            text.remove(place);
+        }
+    }
+}
+
+/// Brings a text to the longest length that is read, or one byte beyond it.
+fn fill_to_the_limit(random: &mut Random, text: &mut Vec<u8>) {
+    let length = random.between(TEXT_LIMIT - 1, TEXT_LIMIT + 1);
+    let line = *random.pick(&[&b"\n"[..], b"0", b"turn=1\n", b"request=1,0,0,0\n"]);
+    while text.len() < length {
+        text.extend_from_slice(line);
+    }
+    text.truncate(length);
+}
+
+fn repeat_beyond_a_count(random: &mut Random, text: &mut Vec<u8>) {
+    let mut lines = lines(text);
+    if lines.is_empty() {
+        return;
+    }
+    let place = random.below(lines.len());
+    let limit = *random.pick(&[16, REQUEST_LIMIT, LOG_LIMIT]);
+    let line = lines[place].clone();
+    lines.splice(
+        place..place,
+        vec![line; random.between(limit - 1, limit + 1)],
+    );
+    *text = lines.concat();
+}
+
+/// Exchanges one number of one line for a small one, one at an end of a range, or another spelling.
+fn change_number(random: &mut Random, text: &mut Vec<u8>) {
+    let mut numbers = numbers(text);
+    if numbers.is_empty() {
+        return;
+    }
+    let (start, end) = numbers.swap_remove(random.below(numbers.len()));
+    let old = String::from_utf8_lossy(&text[start..end]).into_owned();
+    let new = match random.below(10) {
+        0..=4 => random.below(4).to_string(),
+        5 => format!("0{old}"),
+        6 => neighbour(random, &old),
+        _ => random.pick(&EDGES).to_string(),
+    };
+    text.splice(start..end, new.into_bytes());
+}
+
+fn neighbour(random: &mut Random, digits: &str) -> String {
+    let value: u64 = digits.parse().unwrap_or(0);
+    let up = random.percent(50);
+    let near = if up {
+        value.wrapping_add(1)
+    } else {
+        value.wrapping_sub(1)
+    };
+    near.to_string()
+}
+
+/// The start and end of every run of digits.
+fn numbers(text: &[u8]) -> Vec<(usize, usize)> {
+    let digit = |place: usize| text.get(place).is_some_and(u8::is_ascii_digit);
+    let starts = (0..text.len()).filter(|&place| digit(place) && !(place > 0 && digit(place - 1)));
+    let end = |start: usize| (start..).find(|&place| !digit(place)).unwrap_or(start);
+    starts.map(|start| (start, end(start))).collect()
+}
+
+fn lines(text: &[u8]) -> Vec<Vec<u8>> {
+    let lines = text.split_inclusive(|&byte| byte == b'\n');
+    lines.map(<[u8]>::to_vec).collect()
+}
+
+fn change_lines(random: &mut Random, text: &mut Vec<u8>) {
+    let mut lines = lines(text);
+    if lines.is_empty() {
+        return;
+    }
+    let [one, other] = [random.below(lines.len()), random.below(lines.len())];
+    match random.below(6) {
+        0 => lines.swap(one, other),
+        1 => lines.insert(other, lines[one].clone()),
+        2 => {
+            let line = lines.remove(one);
+            lines.insert(other, line);
+        }
+        3 => lines.insert(one, b"\n".to_vec()),
+        _ => {
+            lines.remove(one);
+        }
+    }
+    *text = lines.concat();
+}
+
+fn exchange_neighbours(random: &mut Random, text: &mut Vec<u8>) {
+    let mut lines = lines(text);
+    if lines.len() < 2 {
+        return;
+    }
+    let upper = random.below(lines.len() - 1);
+    lines.swap(upper, upper + 1);
+    *text = lines.concat();
+}
+
+/// Changes the status or the value of a response.
+fn change_response(random: &mut Random, text: &mut Vec<u8>) {
+    let Ok(mut trace) = read_trace(text) else {
+        return damage_text(random, text);
+    };
+    let mut responses: Vec<&mut Response> = trace
+        .iter_mut()
+        .filter_map(|event| match event {
+            Event::Response(response) => Some(response),
+            Event::Request(_) => None,
+        })
+        .collect();
+    if responses.is_empty() {
+        return;
+    }
+    let place = random.below(responses.len());
+    if random.percent(30) {
+        responses[place].status ^= 1;
+    } else {
+        responses[place].value = random.below(4) as u64;
+    }
+    *text = write_trace(&trace);
+}
+
+/// Exchanges two neighbours in one object's log, wherever their lines stand.
+fn exchange_in_log(random: &mut Random, report: &mut Report) {
+    if report.log.is_empty() {
+        return;
+    }
+    let upper = random.below(report.log.len());
+    let object = report.log[upper].object;
+    let below = (upper + 1..report.log.len()).find(|&place| report.log[place].object == object);
+    if let Some(lower) = below {
+        report.log.swap(upper, lower);
+    }
+}
+
+fn join_groups(random: &mut Random, report: &mut Report) {
+    let groups = random.between(1, 3) as u64;
+    for of in &mut report.of {
+        of.group %= groups;
+    }
+}
+
+/// Changes a count and, half of the time, the log with it, so that the claims still fit the count.
+fn change_count(random: &mut Random, report: &mut Report) {
+    if report.of.is_empty() {
+        return;
+    }
+    let place = random.below(report.of.len());
+    let rid = report.of[place].rid;
+    let count = &mut report.of[place].count;
+    let less = random.percent(50) && *count > 0;
+    if less {
+        let dropped = *count;
+        *count -= 1;
+        if random.percent(70) {
+            report
+                .log
+                .retain(|line| (line.rid, line.num) != (rid, dropped));
+        }
+    } else if *count < 256 {
+        *count += 1;
+        let num = *count;
+        if random.percent(70) && !report.log.is_empty() {
+            let mut line = *random.pick(&report.log);
+            (line.rid, line.num) = (rid, num);
+            report.log.push(line);
+        }
+    }
+}
+
+/// Exchanges what two log lines claim: the operations go to other places, or to each other's requests.
+fn renumber(random: &mut Random, report: &mut Report) {
+    if report.log.is_empty() {
+        return;
+    }
+    let [one, other] = [
+        random.below(report.log.len()),
+        random.below(report.log.len()),
+    ];
+    let claim = (report.log[one].rid, report.log[one].num);
+    (report.log[one].rid, report.log[one].num) = (report.log[other].rid, report.log[other].num);
+    (report.log[other].rid, report.log[other].num) = claim;
+}
+
+/// Changes key or kind of a line that stands right above one of an earlier request in its object's log: what
+/// the earlier request reads then depends on whether the line still counts as a write, and it is looked at
+/// before the fault of the line itself.
+fn misstate_feeding_line(random: &mut Random, report: &mut Report) {
+    let arrival = |rid| report.of.iter().position(|of| of.rid == rid);
+    let feeds = |&place: &usize| {
+        let upper = &report.log[place];
+        let mut below = report.log[place + 1..].iter();
+        let lower = below.find(|line| line.object == upper.object);
+        lower.is_some_and(|lower| arrival(lower.rid) < arrival(upper.rid))
+    };
+    let places: Vec<usize> = (0..report.log.len()).filter(feeds).collect();
+    if places.is_empty() {
+        return;
+    }
+    let line = &mut report.log[*random.pick(&places)];
+    if random.percent(50) {
+        line.key = random.between(1, 3) as u64;
+    } else {
+        line.kind = random.between(6, 9) as u64;
+    }
+}
+
+fn change_log_line(random: &mut Random, report: &mut Report) {
+    if report.log.is_empty() {
+        return;
+    }
+    let place = random.below(report.log.len());
+    let small = random.below(4) as u64;
+    let line = &mut report.log[place];
+    match random.below(7) {
+        0 => line.value = small,
+        1..=2 => line.key = small,
+        3..=4 => line.kind = 6 + small,
+        5 => line.object = (line.object + 8) % 16,
+        _ => line.object = small,
+    }
+}
+
+#[cfg(test)]
+mod tests {
+    use super::*;
+    use crate::audit::audit;
+    use crate::random::{run, SMALL};
+
+    #[test]
+    fn every_verdict_of_the_audit_is_reached() {
+        let mut seen = [0; 13];
+        for seed in 0..3_000 {
+            let mut random = Random::new(seed);
+            let mut batch = run(&mut random, SMALL).batch;
+            damage_batch(&mut random, &mut batch);
+            let audited = audit(&batch.programs, &batch.trace, &batch.report);
+            seen[audited.verdict as usize] += 1;
+        }
+        assert!(seen.iter().all(|&count| count > 0), "{seen:?}");
+    }
+
+    #[test]
+    fn numbers_are_found_where_they_stand() {
+        assert_eq!(numbers(b"of=12,0\n"), [(3, 5), (6, 7)]);
+        assert_eq!(numbers(b"7"), [(0, 1)]);
+        assert_eq!(numbers(b""), []);
+    }
+}

@@ -1,0 +1,185 @@
+//! Compares two implementations of the registry audit and its reference host: this one, written from the
+//! scope paper alone, and the proved one, linked as a static library.
+
+mod audit;
+mod cases;
+mod checks;
+mod damage;
+mod host;
+mod machine;
+mod plain;
+#[cfg(feature = "proved")]
+mod proved;
+mod random;
+mod reduce;
+mod texts;
+mod worked;
+
+use cases::Case;
+use checks::Check;
+use plain::Found;
+use std::path::{Path, PathBuf};
+use std::process::ExitCode;
+use std::time::{SystemTime, UNIX_EPOCH};
+
+const HELP: &str = "\
+usage: compare [--alone] [--cases N] [--seed S] [--out DIR]
+
+Runs N cases (10000 if not given): the worked ones, then half from a fixed seed and the rest from seed S
+(taken from the clock if not given, and printed). Each case is a batch, honest or damaged, and a schedule.
+  --alone    only the checks within this implementation: acceptance against a search of all orders, and
+             what the host writes against the audit
+  --out DIR  where a difference, reduced, is written (differences)
+The last line is 'N passed, M failed'; the exit status is 0 only where nothing failed.";
+
+struct Options {
+    alone: bool,
+    cases: usize,
+    seed: u64,
+    out: PathBuf,
+}
+
+fn main() -> ExitCode {
+    if std::env::args().any(|argument| argument == "--help") {
+        println!("{HELP}");
+        return ExitCode::SUCCESS;
+    }
+    match options().and_then(|options| Ok((checks(&options)?, options))) {
+        Ok((checks, options)) => compare(&checks, &options),
+        Err(problem) => {
+            eprintln!("compare: {problem} (--help says how it is called)");
+            ExitCode::from(2)
+        }
+    }
+}
+
+fn options() -> Result<Options, String> {
+    let mut options = Options {
+        alone: false,
+        cases: 10_000,
+        seed: seed_of_the_clock(),
+        out: PathBuf::from("differences"),
+    };
+    let mut arguments = std::env::args().skip(1);
+    while let Some(argument) = arguments.next() {
+        let mut value = || arguments.next().ok_or(format!("{argument} needs a value"));
+        match argument.as_str() {
+            "--alone" => options.alone = true,
+            "--cases" => options.cases = number(&value()?)?,
+            "--seed" => options.seed = number(&value()?)?,
+            "--out" => options.out = PathBuf::from(value()?),
+            _ => return Err(format!("{argument} is not known")),
+        }
+    }
+    Ok(options)
+}
+
+fn number<N: std::str::FromStr>(text: &str) -> Result<N, String> {
+    text.parse().map_err(|_| format!("{text} is no number"))
+}
+
+fn seed_of_the_clock() -> u64 {
+    SystemTime::now()
+        .duration_since(UNIX_EPOCH)
+        .map_or(0, |time| time.as_secs())
+}
+
+#[cfg(feature = "proved")]
+fn checks(options: &Options) -> Result<Vec<Check>, String> {
+    let mut checks = checks::ALONE.to_vec();
+    if !options.alone {
+        checks.extend(checks::AGAINST_PROVED);
+    }
+    Ok(checks)
+}
+
+#[cfg(not(feature = "proved"))]
+fn checks(options: &Options) -> Result<Vec<Check>, String> {
+    if !options.alone {
+        return Err("built without the proved functions: only --alone can be run".into());
+    }
+    Ok(checks::ALONE.to_vec())
+}
+
+/// What the cases were like, so that a reader sees what was reached.
+#[derive(Default)]
+struct Tally {
+    verdicts: [usize; 13],
+    schedules: [usize; 17],
+    orders: usize,
+    no_orders: usize,
+    given_up: usize,
+}
+
+impl Tally {
+    fn count(&mut self, case: &Case) {
+        self.verdicts[checks::audit_of(&case.batch).verdict as usize] += 1;
+        self.schedules[checks::record_of(case).verdict as usize] += 1;
+        match checks::search(&case.batch) {
+            Some(Found::Order) => self.orders += 1,
+            Some(Found::NoOrder) => self.no_orders += 1,
+            Some(Found::GaveUp) => self.given_up += 1,
+            None => {}
+        }
+    }
+
+    fn print(&self) {
+        println!("audit: {}", shares(&self.verdicts));
+        println!("record: {}", shares(&self.schedules));
+        println!(
+            "search of all orders: {} with an order, {} with none, {} given up",
+            self.orders, self.no_orders, self.given_up
+        );
+    }
+}
+
+fn shares(counts: &[usize]) -> String {
+    let reached = counts.iter().enumerate().filter(|(_, count)| **count > 0);
+    let shares: Vec<String> = reached
+        .map(|(verdict, count)| format!("verdict {verdict}: {count}"))
+        .collect();
+    shares.join(", ")
+}
+
+fn compare(checks: &[Check], options: &Options) -> ExitCode {
+    println!(
+        "fixed seed {}, then seed {}",
+        cases::FIXED_SEED,
+        options.seed
+    );
+    let mut tally = Tally::default();
+    let (mut passed, mut failed) = (0, 0);
+    for case in cases::cases(options.cases, options.seed) {
+        tally.count(&case);
+        match checks.iter().find(|check| check(&case).is_some()) {
+            None => passed += 1,
+            Some(check) => {
+                failed += 1;
+                if failed <= TOLD {
+                    tell(case, *check, &options.out);
+                }
+            }
+        }
+    }
+    tally.print();
+    println!("{passed} passed, {failed} failed");
+    if failed == 0 {
+        ExitCode::SUCCESS
+    } else {
+        ExitCode::FAILURE
+    }
+}
+
+/// So many differences are reduced and written; the others are counted.
+const TOLD: usize = 20;
+
+/// Reduces a difference, writes it to a folder of its own and says where.
+fn tell(case: Case, check: Check, out: &Path) {
+    let reduced = reduce::reduce(case, check);
+    let difference = check(&reduced).unwrap_or_default();
+    let folder = out.join(&reduced.name);
+    println!("{}: {difference}", folder.display());
+    if let Err(problem) = reduce::write(&reduced, &folder, &difference) {
+        println!("{}: not written: {problem}", folder.display());
+    }
+}

@@ -1,0 +1,46 @@
+//! The proved functions, linked from the static library of crate `export`.
+
+use crate::audit::Audited;
+use crate::texts::BatchTexts;
+
+// A slice passes as its address and its length.
+extern "C" {
+    fn teaselshears_audit(
+        programs: *const u8,
+        programs_length: usize,
+        trace: *const u8,
+        trace_length: usize,
+        report: *const u8,
+        report_length: usize,
+        out: *mut u64,
+        out_length: usize,
+    ) -> usize;
+}
+
+const NUMBERS: usize = 4;
+
+pub fn audit(batch: &BatchTexts) -> Audited {
+    let mut out = [u64::MAX; NUMBERS];
+    // SAFETY: each address comes with the length of the slice that it is the start of, and the slices live
+    // until the call returns.
+    let written = unsafe {
+        teaselshears_audit(
+            batch.programs.as_ptr(),
+            batch.programs.len(),
+            batch.trace.as_ptr(),
+            batch.trace.len(),
+            batch.report.as_ptr(),
+            batch.report.len(),
+            out.as_mut_ptr(),
+            out.len(),
+        )
+    };
+    assert_eq!(written, NUMBERS);
+    let [verdict, line, requests, operations] = out;
+    Audited {
+        verdict,
+        line: line as usize,
+        requests: requests as usize,
+        operations: operations as usize,
+    }
+}

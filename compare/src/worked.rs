@@ -1,0 +1,337 @@
+//! The batches that the scope paper works out, an example of every row of its table, and the limits, each
+//! with the result that the paper gives.
+
+use crate::audit::Audited;
+use crate::texts::BatchTexts;
+
+pub const PROGRAMS: &str = "program=0\ndo=1,2,1,0\ndo=7,0,2,0\ndo=6,0,1,0\ndo=0,0,0,0\n\
+                            program=1\ndo=1,2,1,0\ndo=7,1,2,0\ndo=6,0,0,0\ndo=0,0,0,0\n";
+pub const LOOP: &str = "program=0\ndo=1,2,1,0\ndo=5,2,0,0\ndo=0,0,0,0\n";
+pub const SCHEDULE_OF_C: &[u8] =
+    b"arrive=1,0,0,0\narrive=2,1,0,0\nturn=1\nturn=2\nturn=1\nturn=2\nturn=1\nturn=2\n";
+
+const TRACE_OF_C: &str = "request=1,0,0,0\nrequest=2,1,0,0\nresponse=1,0,1\nresponse=2,0,1\n";
+const REPORT_OF_C: &str = "of=1,0,2\nof=2,1,2\n\
+                           log=0,1,1,7,0,1\nlog=0,2,2,6,0,0\nlog=1,2,1,7,0,1\nlog=1,1,2,6,0,0\n";
+
+pub struct Case {
+    pub name: &'static str,
+    pub batch: BatchTexts,
+    pub expected: Audited,
+}
+
+pub fn batch(programs: &str, trace: &str, report: &str) -> BatchTexts {
+    BatchTexts {
+        programs: programs.into(),
+        trace: trace.into(),
+        report: report.into(),
+    }
+}
+
+pub fn case_c() -> BatchTexts {
+    batch(PROGRAMS, TRACE_OF_C, REPORT_OF_C)
+}
+
+/// Every batch of this file.
+pub fn batches() -> Vec<Case> {
+    let mut cases = worked();
+    cases.extend(rows());
+    cases.extend(readings());
+    cases.extend(limits());
+    cases
+}
+
+fn accepted(name: &'static str, batch: BatchTexts, requests: usize, operations: usize) -> Case {
+    let expected = Audited {
+        verdict: 0,
+        line: 0,
+        requests,
+        operations,
+    };
+    Case {
+        name,
+        batch,
+        expected,
+    }
+}
+
+fn refused(name: &'static str, batch: BatchTexts, verdict: u64, line: usize) -> Case {
+    let expected = Audited {
+        verdict,
+        line,
+        requests: 0,
+        operations: 0,
+    };
+    Case {
+        name,
+        batch,
+        expected,
+    }
+}
+
+/// Case C with a piece of its report or trace exchanged for another.
+fn changed_c(trace: [&str; 2], report: [&str; 2]) -> BatchTexts {
+    let exchanged = |text: &str, [old, new]: [&str; 2]| {
+        assert!(text.contains(old));
+        text.replacen(old, new, 1)
+    };
+    batch(
+        PROGRAMS,
+        &exchanged(TRACE_OF_C, trace),
+        &exchanged(REPORT_OF_C, report),
+    )
+}
+
+const SAME: [&str; 2] = ["", ""];
+
+fn worked() -> Vec<Case> {
+    let b = batch(
+        PROGRAMS,
+        "request=1,0,0,0\nrequest=2,1,0,0\nresponse=1,0,0\nresponse=2,0,0\n",
+        "of=1,0,2\nof=2,1,2\nlog=0,2,2,6,0,0\nlog=0,1,1,7,0,1\nlog=1,1,2,6,0,0\nlog=1,2,1,7,0,1\n",
+    );
+    let a = batch(
+        PROGRAMS,
+        "request=1,0,0,0\nresponse=1,0,1\nrequest=2,1,0,0\nresponse=2,0,0\n",
+        "of=1,0,2\nof=2,1,2\nlog=0,2,2,6,0,0\nlog=0,1,1,7,0,1\nlog=1,2,1,7,0,1\nlog=1,1,2,6,0,0\n",
+    );
+    let looped = batch(LOOP, "request=1,0,0,0\nresponse=1,1,0\n", "of=1,0,0\n");
+    vec![
+        accepted("case C", case_c(), 2, 4),
+        refused("case B", b, 9, 0),
+        refused("case A", a, 9, 0),
+        accepted("all empty", BatchTexts::default(), 0, 0),
+        accepted("the loop", looped, 1, 0),
+    ]
+}
+
+fn rows() -> Vec<Case> {
+    let one = "request=1,0,0,0\nresponse=1,0,0\n";
+    let replies = "program=0\ndo=0,0,0,0\n";
+    vec![
+        refused("row 1", batch("do=1,2\n", "x", "x"), 1, 1),
+        refused("row 2", batch("program=0\ndo=0,8,0,0\n", "x", "x"), 2, 2),
+        refused("row 3", batch("", "request=01,0,0,0\n", "x"), 3, 1),
+        refused("row 4", batch("", "response=1,0,0\n", "x"), 4, 1),
+        refused("row 5", batch("", "", "of=1,0\n"), 5, 1),
+        refused("row 6", batch(replies, one, ""), 6, 1),
+        refused(
+            "row 7",
+            batch(replies, one, "of=1,0,0\nlog=0,1,1,7,0,1\n"),
+            7,
+            2,
+        ),
+        refused("row 8", batch(replies, one, "of=1,0,1\n"), 8, 1),
+        refused(
+            "row 10",
+            changed_c(SAME, ["log=0,1,1,7,0,1", "log=0,1,1,7,0,2"]),
+            10,
+            1,
+        ),
+        refused(
+            "row 11",
+            changed_c(["response=2,0,1", "response=2,0,5"], SAME),
+            11,
+            2,
+        ),
+        refused("row 12", changed_c(SAME, ["of=2,1,2", "of=2,0,2"]), 12, 2),
+    ]
+}
+
+/// Places where a sentence of the paper has to be read closely.
+fn readings() -> Vec<Case> {
+    let replies = "program=0\ndo=0,0,0,0\nprogram=1\ndo=0,0,0,0\n";
+    let two = "request=1,0,0,0\nrequest=2,1,0,0\nresponse=1,0,0\nresponse=2,0,0\n";
+    let trace = |text: &str| batch(replies, text, "x");
+    let report = |text: &str| batch(replies, two, text);
+    let writes_0 = "program=0\ndo=7,0,0,0\ndo=0,0,0,0\n";
+    let answered = "request=1,0,0,0\nresponse=1,0,0\n";
+    vec![
+        refused(
+            "unreadable below a broken rule",
+            batch("program=0\ndo=0,8,0,0\nx\n", "", ""),
+            1,
+            3,
+        ),
+        refused("program unknown", trace("request=1,2,0,0\n"), 4, 1),
+        refused(
+            "rid used twice, though answered",
+            trace("request=1,0,0,0\nresponse=1,0,0\nrequest=1,0,0,0\nresponse=1,0,0\n"),
+            4,
+            3,
+        ),
+        refused(
+            "answered twice",
+            trace("request=1,0,0,0\nresponse=1,0,0\nresponse=1,0,0\n"),
+            4,
+            3,
+        ),
+        refused(
+            "a line fault goes before a request never answered",
+            trace("request=1,0,0,0\nrequest=2,1,0,0\nresponse=3,0,0\n"),
+            4,
+            3,
+        ),
+        refused(
+            "the earliest request never answered",
+            trace("request=3,0,0,0\nrequest=1,0,0,0\nresponse=3,0,0\nrequest=2,1,0,0\n"),
+            4,
+            2,
+        ),
+        refused("of lines exchanged", report("of=2,0,0\nof=1,1,0\n"), 6, 1),
+        refused(
+            "an of line too many",
+            report("of=1,0,0\nof=2,1,0\nof=3,2,0\n"),
+            6,
+            3,
+        ),
+        refused("an of line missing", report("of=1,0,0\n"), 6, 2),
+        refused(
+            "an of line missing above the log",
+            report("of=1,0,0\nlog=0,1,1,7,0,1\n"),
+            6,
+            2,
+        ),
+        refused(
+            "equal positions of two programs",
+            report("of=1,0,0\nof=2,0,0\n"),
+            12,
+            2,
+        ),
+        refused(
+            "operation 0 claimed",
+            batch(writes_0, answered, "of=1,0,1\nlog=0,1,0,7,0,0\n"),
+            7,
+            2,
+        ),
+        refused(
+            "claimed before",
+            batch(
+                writes_0,
+                answered,
+                "of=1,0,1\nlog=0,1,1,7,0,0\nlog=1,1,1,7,0,0\n",
+            ),
+            7,
+            3,
+        ),
+        refused(
+            "rid of a log line unknown",
+            batch(writes_0, answered, "of=1,0,1\nlog=0,2,1,7,0,0\n"),
+            7,
+            2,
+        ),
+        refused(
+            "a register line with a key",
+            batch(writes_0, answered, "of=1,0,1\nlog=0,1,1,7,1,0\n"),
+            10,
+            1,
+        ),
+        refused(
+            "fewer operations than counted",
+            batch(
+                writes_0,
+                answered,
+                "of=1,0,2\nlog=0,1,1,7,0,0\nlog=0,1,2,7,0,0\n",
+            ),
+            10,
+            1,
+        ),
+        refused(
+            "more operations than counted",
+            batch(writes_0, answered, "of=1,0,0\n"),
+            10,
+            1,
+        ),
+        refused(
+            "operations of one request against their numbers",
+            batch(
+                "program=0\ndo=7,0,0,0\ndo=7,0,0,0\ndo=0,0,0,0\n",
+                answered,
+                "of=1,0,2\nlog=0,1,2,7,0,0\nlog=0,1,1,7,0,0\n",
+            ),
+            9,
+            0,
+        ),
+        // Request 1 writes 5 into register 0 by a line that claims key 3: a write all the same, so request 2
+        // reads 5 and is right; the fault is request 1's own.
+        refused(
+            "a write with a wrong key feeds a read",
+            batch(
+                "program=0\ndo=7,0,0,0\ndo=0,1,0,0\nprogram=1\ndo=6,0,0,0\ndo=0,0,0,0\n",
+                "request=2,1,0,0\nrequest=1,0,5,0\nresponse=2,0,5\nresponse=1,0,0\n",
+                "of=2,0,1\nof=1,1,1\nlog=0,1,1,7,3,5\nlog=0,2,1,6,0,0\n",
+            ),
+            10,
+            2,
+        ),
+        // Kind 9 on a register is no write: request 2 reads 0, so its 5 is the first fault.
+        refused(
+            "a kind that does not fit its object feeds nothing",
+            batch(
+                "program=0\ndo=7,0,0,0\ndo=0,1,0,0\nprogram=1\ndo=6,0,0,0\ndo=0,0,0,0\n",
+                "request=2,1,0,0\nrequest=1,0,5,0\nresponse=2,0,5\nresponse=1,0,0\n",
+                "of=2,0,1\nof=1,1,1\nlog=0,1,1,9,0,5\nlog=0,2,1,6,0,0\n",
+            ),
+            11,
+            1,
+        ),
+    ]
+}
+
+fn limits() -> Vec<Case> {
+    vec![
+        accepted("64 requests", requests(64), 64, 0),
+        refused("65 requests", requests(65), 3, 65),
+        accepted("1,024 log lines", operations(0), 32, 1_024),
+        refused("1,025 log lines", operations(1), 5, 32 + 1_025),
+        accepted("reply as 256th instruction", rounds(126, "0,0"), 1, 0),
+        refused("reply as 257th instruction", rounds(127, "0,0"), 11, 1),
+        accepted("cut off before the 257th", rounds(127, "1,0"), 1, 0),
+        accepted("0 minus 1", minus("18446744073709551615"), 1, 0),
+        refused("0 minus 1 is not 0", minus("0"), 11, 1),
+        refused("2^64 is no number", minus("18446744073709551616"), 3, 2),
+    ]
+}
+
+/// So many requests that reply at once; all arrive before the first is answered.
+fn requests(count: usize) -> BatchTexts {
+    let lines = |write: &dyn Fn(usize) -> String| (0..count).map(write).collect::<String>();
+    let trace = lines(&|rid| format!("request={rid},0,7,0\n"))
+        + &lines(&|rid| format!("response={rid},0,7\n"));
+    let report = lines(&|rid| format!("of={rid},{},0\n", rid.min(63)));
+    batch("program=0\ndo=0,0,0,0\n", &trace, &report)
+}
+
+/// Thirty-two requests one after the other, with 32 writes each in the log of register 0, and so many log
+/// lines more behind them.
+fn operations(more: usize) -> BatchTexts {
+    let programs = format!("program=0\n{}do=0,0,0,0\n", "do=7,0,0,0\n".repeat(32));
+    let (mut trace, mut of, mut log) = (String::new(), String::new(), String::new());
+    for rid in 0..32 {
+        trace += &format!("request={rid},0,{rid},0\nresponse={rid},0,{rid}\n");
+        of += &format!("of={rid},0,32\n");
+        for num in 1..=32 {
+            log += &format!("log=0,{rid},{num},7,0,{rid}\n");
+        }
+    }
+    log += &"log=0,0,1,7,0,0\n".repeat(more);
+    batch(&programs, &trace, &(of + &log))
+}
+
+/// A request that counts down so many rounds: 3 instructions before, 2 for each round, 1 reply.
+fn rounds(count: usize, response: &str) -> BatchTexts {
+    batch(
+        "program=0\ndo=1,2,1,0\ndo=1,3,0,0\ndo=1,3,0,0\ndo=3,0,0,2\ndo=5,0,3,0\ndo=0,0,0,0\n",
+        &format!("request=1,0,{count},0\nresponse=1,{response}\n"),
+        "of=1,0,0\n",
+    )
+}
+
+/// The difference of the inputs 0 and 1, answered with this value.
+fn minus(value: &str) -> BatchTexts {
+    batch(
+        "program=0\ndo=3,2,0,1\ndo=0,2,0,0\n",
+        &format!("request=1,0,0,1\nresponse=1,0,{value}\n"),
+        "of=1,0,0\n",
+    )
+}
