@@ -3,12 +3,11 @@
 use borrow.Author.Needs.{needs}
 use native.Mathlib.Omega.{arith}
 use borrow.Author.Tests.{lt-ltb, le-ltb}
-use mathlib.Core.Path.{_≡_, refl, sym, ap, _∙_}
+use mathlib.Core.Path.{_≡_, sym, ap, _∙_}
 use mathlib.Core.Bool.{Bool, cond}
 use mathlib.Core.List.{List}
 use Prim.Native.Nat.{ℕ, _<_, _≤_}
 use lib.ListN.{length, set, length-set}
-use lib.Dec.{ltb}
 use Rattle.verifier.specs.declared.Audited.{Audited}
 use Rattle.export.specs.Numbers.{handed, handedCount}
 use Rattle.export.proofs.teaselshears_audit.Statement.{statement}
