@@ -22,7 +22,12 @@ fn wide(x: u16) -> usize
 }
 
 // Links the first n lines bucket by bucket, in one pass from the back, so that each chain goes downward in the report.
-pub fn link_lines(logs: &[u64; 6144], n: usize, heads: &mut [u16; 1024], afters: &mut [u16; 1024])
+pub(crate) fn link_lines(
+    logs: &[u64; 6144],
+    n: usize,
+    heads: &mut [u16; 1024],
+    afters: &mut [u16; 1024],
+)
     requires { ⌜ (n ≤ 1024) × (now heads ≡ replicate 1024 1024) × (length (now afters) ≡ 1024) ⌝ }
     ensures { λ _. ⌜ Linked (entryAt (now (logs .entry))) n 0 (now (heads .exit)) (now (afters .exit)) ⌝ }
 {
@@ -88,7 +93,7 @@ pub enum Answered {
 }
 
 // Operation num of a request, which is o.
-pub fn answer_of(
+pub(crate) fn answer_of(
     logs: &[u64; 6144],
     n: usize,
     heads: &[u16; 1024],
@@ -114,7 +119,7 @@ pub fn answer_of(
 }
 
 // Links the lines, and has their answers.
-pub fn prepare(
+pub(crate) fn prepare(
     logs: &[u64; 6144],
     n: usize,
     heads: &mut [u16; 1024],

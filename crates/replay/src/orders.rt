@@ -104,7 +104,7 @@ fn put_items(
 }
 
 // Whether the order returns to itself: the merge leaves something over.
-pub fn returns(
+pub(crate) fn returns(
     events: &[u64; 640],
     t: usize,
     ofs: &[u64; 192],

@@ -41,7 +41,7 @@ fn stopped(k: u64, count: u64, status: u64, value: u64, done: usize) -> End
 }
 
 // The request in slot `slot`. The positions it carries out go to its row of paths.
-pub fn replay(
+pub(crate) fn replay(
     p: Program,
     start: Arrival,
     x: Of,

@@ -132,7 +132,7 @@ fn row_of(
 }
 
 // The first fault of rows 10 to 12. A path is kept in its request's row of `paths`, of 256 positions.
-pub fn judge_requests(
+pub(crate) fn judge_requests(
     ps: Programs,
     events: &[u64; 640],
     t: usize,

@@ -15,7 +15,7 @@ ghost use Rattle.verifier.specs.Faults.{brokenLine};
 ghost use Rattle.verifier.specs.Steps.{beyond, packed, Packed, reported};
 
 // Row 6: `of` lines are not one per request in arrival order.
-pub fn row_6(events: &[u64; 640], t: usize, ofs: &[u64; 192], m: usize) -> Ruling
+pub(crate) fn row_6(events: &[u64; 640], t: usize, ofs: &[u64; 192], m: usize) -> Ruling
     requires { ⌜ m ≤ 64 ⌝ }
     ensures { λ r. ⌜ brokenLine r ≡ row6From 1 (firsts (eventAt (now (events .entry))) t) (firsts (ofAt (now (ofs .entry))) m) ⌝ }
 {
@@ -80,7 +80,7 @@ fn pack(rid: u64, num: u64) -> u64
 }
 
 // The claims of the first n log lines.
-pub fn pack_claims(logs: &[u64; 6144], n: usize, column: &mut [u64; 1024])
+pub(crate) fn pack_claims(logs: &[u64; 6144], n: usize, column: &mut [u64; 1024])
     requires { ⌜ (n ≤ 1024) × (length (now column) ≡ 1024) ⌝ }
     ensures { λ _. ⌜ Packed (now (logs .entry)) n (now (column .exit)) ⌝ }
 {
@@ -108,7 +108,7 @@ fn claims_at(logs: &[u64; 6144], column: &[u64; 1024], j: usize, p: u64, rid: u6
 }
 
 // Row 7: log line's rid unknown, num 0 or above count, or claimed before.
-pub fn row_7(
+pub(crate) fn row_7(
     ofs: &[u64; 192],
     m: usize,
     logs: &[u64; 6144],
@@ -161,7 +161,7 @@ fn is_claimed(logs: &[u64; 6144], n: usize, column: &[u64; 1024], rid: u64, num:
 }
 
 // Row 8: an operation within the count has no log line.
-pub fn row_8(
+pub(crate) fn row_8(
     ofs: &[u64; 192],
     m: usize,
     logs: &[u64; 6144],
