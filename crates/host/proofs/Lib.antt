@@ -8,3 +8,6 @@ pub mod Fitting
 pub mod Going
 pub mod Picking
 pub mod Sorting
+pub mod RowsOther
+pub mod States
+pub mod Promises

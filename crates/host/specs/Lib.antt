@@ -3,3 +3,5 @@ pub mod Recorded
 pub mod Accepted
 -- What private functions promise
 pub mod Steps
+pub mod Requests
+pub mod Moves

@@ -9,7 +9,7 @@ ghost use Rattle.text.specs.Rows.{withRow};
 ghost use Rattle.host.specs.Steps.{RoomFor, Picked, Sorted};
 
 // Row i of logs.
-fn put_line(logs: &mut [u64; 6144], i: usize, l: Entry)
+pub(crate) fn put_line(logs: &mut [u64; 6144], i: usize, l: Entry)
     requires { ⌜ i < 1024 ⌝ }
     ensures { λ _. ⌜ now (logs .exit) ≡ withRow 6 (now (logs .entry)) i (entryNumbers l) ⌝ }
 {
