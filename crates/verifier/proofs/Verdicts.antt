@@ -36,6 +36,7 @@ use Rattle.machine.specs.Processes.{limit}
 use Rattle.machine.specs.Rules.{rulingOf}
 use Rattle.machine.specs.declared.rules.Ruling.the-variants.{Kept, Broken}
 use Rattle.machine.specs.declared.rules.Ruling.{Ruling}
+use Rattle.machine.proofs.Tables.{same-code}
 use Rattle.replay.specs.Judges.{batchIn, Ready, checks, Judges}
 use Rattle.replay.specs.declared.Fault.{Fault}
 use Rattle.verifier.specs.Accepts.{Accepts}
@@ -54,7 +55,6 @@ use Rattle.verifier.specs.declared.Audited.{Audited}
 use Rattle.verifier.proofs.Acceptance.{audit-accepts}
 use Rattle.verifier.proofs.ReportRanges.{report-in-range}
 use Rattle.verifier.proofs.SameReplays.{replays-same}
-use Rattle.verifier.proofs.Tables.{same-code}
 
 -- ── one row ──
 -- a ruling r tells the line o of a row, and is k's

@@ -1,8 +1,8 @@
--- The program table in an array, with blank instructions behind each program's own, and the programs as they were read: the machine finds
--- the same in both.
-use Prim.Native.Nat.{ℕ, zero, suc, _%_, _<_}
+-- Two program tables in which the machine finds the same: the table in an array, with blank instructions behind each program's own, and the
+-- programs as they were read; and a request goes on in the same way by the same instructions.
+use Prim.Native.Nat.{ℕ, zero, suc, _+_, _%_, _<_}
 use mathlib.Core.List.{List, [], _∷_}
-use mathlib.Core.Path.{_≡_, sym, _∙_}
+use mathlib.Core.Path.{_≡_, refl, sym, ap, _∙_}
 use native.Mathlib.Omega.{arith}
 use borrow.Author.Tests.{ltb-true, ltb-false}
 use lib.Dec.{ltb}
@@ -10,12 +10,17 @@ use lib.ListN.{getD, take, length-take, List·getD-append, List·getD-eq-default
 use lib.Seq.{getD-take, getD-at}
 use Rattle.text.specs.Held.{noInstr, noProgram, trimmed, programAt, Bounded}
 use Rattle.text.specs.Rows.{firsts}
+use Rattle.text.specs.declared.programs.Instr.{Instr}
 use Rattle.text.specs.declared.programs.Program.{Program}
 use Rattle.text.proofs.RowLaws.{firsts-length}
 use Rattle.ordering.proofs.Basics.{byBool, byEq}
-use Rattle.machine.specs.Processes.{instrAt}
+use Rattle.machine.specs.declared.instructions.Act.{Act}
+use Rattle.machine.specs.declared.instructions.Act.the-variants.{Goes, Asks, Replies}
+use Rattle.machine.specs.Instructions.{effectOf}
+use Rattle.machine.specs.Processes.{Advanced, instrAt, behind, follow, go}
 
-getD-firsts : {A : Type 0} (f : ℕ → A) (n k : ℕ) (d : A) → k < n → getD (firsts f n) k d ≡ f k
+-- ── a table in an array, and as it was read ──
+pub getD-firsts : {A : Type 0} (f : ℕ → A) (n k : ℕ) (d : A) → k < n → getD (firsts f n) k d ≡ f k
 unfolding firsts
 getD-firsts f zero k d h = absurd (omega arith)
 getD-firsts f (suc n) k d h =
@@ -44,3 +49,20 @@ module _ (table : List Program) (n : ℕ) where
       (λ t.
       b .blank i (ltb-false i (p .n) t)
       ∙ sym (List·getD-eq-default (take (p .n) (p .code)) noInstr {n = i} (omega (arith, ltb-false i (p .n) t, length-take (p .n) (p .code))))))
+
+-- ── a request goes on in the same way ──
+follow-same : (x : Act) (l : List ℕ) (n done : ℕ) (f g : List ℕ → ℕ → Advanced) → ((m : List ℕ) (to : ℕ) → f m to ≡ g m to) →
+    follow x l n done f ≡ follow x l n done g
+follow-same (Goes to) l n done f g h = h l to
+follow-same (Asks o into) l n done f g h = refl
+follow-same (Replies v) l n done f g h = refl
+
+pub go-same : (p q : List Instr) → ((at : ℕ) → instrAt p at ≡ instrAt q at) → (k : ℕ) (l : List ℕ) (at done : ℕ) →
+    go k p l at done ≡ go k q l at done
+unfolding go
+go-same p q h zero l at done = refl
+go-same p q h (suc k) l at done =
+    let e = effectOf l (instrAt q at) (at % 64 + 1) in
+    rw (h at)
+    (ap (behind (at % 64))
+    (follow-same (e .act) (e .locals) (at % 64 + 1) (done + 1) _ _ (λ m to. go-same p q h k m to (done + 1))))
