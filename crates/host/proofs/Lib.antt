@@ -11,3 +11,10 @@ pub mod Sorting
 pub mod RowsOther
 pub mod States
 pub mod Promises
+pub mod Slots
+pub mod LogLines
+pub mod EventRows
+pub mod Locals
+pub mod Running
+pub mod Arriving
+pub mod Turning

@@ -16,7 +16,7 @@ use Rattle.ordering.proofs.Basics.{byBool}
 use Rattle.model.specs.Batch.{logOf}
 use Rattle.host.specs.Steps.{linesOf, RoomFor, Picked}
 
-log-append : (o : ℕ) (xs ys : List Entry) → logOf o (xs ++ ys) ≡ logOf o xs ++ logOf o ys
+pub log-append : (o : ℕ) (xs ys : List Entry) → logOf o (xs ++ ys) ≡ logOf o xs ++ logOf o ys
 log-append o [] ys = refl
 log-append o (x ∷ xs) ys =
     byBool (eqb (x .op .object) o)

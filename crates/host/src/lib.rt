@@ -2,6 +2,7 @@
 mod logs;
 mod outputs;
 mod requests;
+mod runs;
 mod steps;
 mod turns;
 
