@@ -1,8 +1,9 @@
--- The worked schedules, computed (Stars); what was read is in range (Readings); what is written is accepted (Acceptance);
+-- The worked schedules, computed (Stars); what was read is in range (Readings); what is written stands in front of
+-- the buffers (Fronts), and is accepted (Acceptance);
 -- and the laws that functions rest on: of row 16 (Fitting), of a turn (Going), of the log by object (Picking, Sorting).
 mod Stars
 pub mod Readings
-pub mod Bounds
+pub mod Fronts
 pub mod Acceptance
 pub mod Fitting
 pub mod Going
