@@ -22,10 +22,10 @@ use Rattle.model.specs.PlainRun.{Phase, absent, opened, closed}
 use Rattle.model.specs.Ranges.{requestsIn, responsesIn, arrivalsIn}
 use Rattle.model.proofs.Faithful.{faithful-arrive}
 use Rattle.model.proofs.Ranges.{responses-few}
+use Rattle.machine.specs.Instance.{known}
 use Rattle.machine.specs.Objects.{atStart}
 use Rattle.machine.specs.Processes.{firstLocals}
 use Rattle.host.specs.Moves.{progress, counts, Arrived, ArriveIs}
-use Rattle.host.specs.Recorded.{known}
 use Rattle.host.specs.Requests.{isOpenIn, stateNumbers}
 use Rattle.host.specs.Runs.{missing, seenRow, seenSlot, M, seen, RequestsIs, RidIn}
 use Rattle.host.specs.declared.steps.Counts.{Counts}

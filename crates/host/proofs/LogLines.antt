@@ -17,6 +17,7 @@ use Rattle.text.proofs.RowLaws.{row-room, row-put, row-before, rows-put, firsts
 use Rattle.ordering.specs.Maps.{upd}
 use Rattle.ordering.proofs.Basics.{byBool, byEq, upd-at, upd-other, eqb-no}
 use Rattle.model.specs.Batch.{logOf}
+use Rattle.model.proofs.Report.{log-append}
 use Rattle.machine.specs.Index.{stored, performed, performOf}
 use Rattle.machine.specs.Logs.{ops, after, afterAll}
 use Rattle.machine.specs.Objects.{Content, apply, atStart}
@@ -24,7 +25,6 @@ use Rattle.machine.proofs.Passing.{Indexed, Registers, answerAt, Passed, passed
 use Rattle.host.specs.Moves.{joined}
 use Rattle.host.specs.Runs.{LinesIs}
 use Rattle.host.specs.Steps.{linesOf}
-use Rattle.host.proofs.Picking.{log-append}
 
 -- the objects behind k log lines, in arrays and in the model
 pub record ObjectsIs (logs registers heads befores : List ℕ) (k : ℕ) (contents : ℕ → Content) (operations : ℕ) : Type 0 where

@@ -27,11 +27,11 @@ use Rattle.model.specs.PlainRun.{Phase, absent, opened, closed}
 use Rattle.model.specs.Ranges.{requestsIn, responsesIn, arrivalsIn}
 use Rattle.model.proofs.Faithful.{hasArrived, isClosed, Faithful, faithful-empty, faithful-arrive, add-response}
 use Rattle.model.proofs.Ranges.{responses-few, requests-append}
+use Rattle.machine.specs.Instance.{known}
 use Rattle.machine.specs.Objects.{atStart}
 use Rattle.machine.proofs.Passing.{registers-start, index-start}
 use Rattle.verifier.proofs.Scans.{from, firsts-from, from-next, from-end}
 use Rattle.host.specs.Moves.{counts, Arrived, ArriveIs}
-use Rattle.host.specs.Recorded.{known}
 use Rattle.host.specs.Requests.{isOpenIn, progressIn, standingRow, standingIn}
 use Rattle.host.specs.Runs.{
   missing,
@@ -150,14 +150,14 @@ module _ (ps : Programs) (moves arrivals : List ℕ) (n : ℕ) where
       λ r i. ap (λ slots. getD slots r 0) (h .slotsBlank) ∙ getD-replicate 65536 r 0 0 i in
       record {
         within = omega arith;
-        scheduled = h .lines;
-        movesRoom = h .movesRoom;
-        few = h .few;
-        bounded = h .bounded;
+        scheduled = h .scheduled .lines;
+        movesRoom = h .scheduled .movesRoom;
+        few = h .scheduled .few;
+        bounded = h .scheduled .bounded;
         host = empty (M T) atStart;
         goes = ap (λ ms. ranFrom T 1 ms (empty (M T) atStart)) all;
-        rids = subst (All RidIn) (sym all) (h .rids);
-        toCome = omega (arith, h .arrivalsFew, ap arrivalsIn all);
+        rids = subst (All RidIn) (sym all) (h .scheduled .rids);
+        toCome = omega (arith, h .scheduled .arrivalsFew, ap arrivalsIn all);
         requests =
             record {
               slotsRoom = ap length (h .slotsBlank) ∙ length-replicate {A = ℕ} 65536 0;

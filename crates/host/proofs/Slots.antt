@@ -15,7 +15,7 @@ use Rattle.text.specs.declared.programs.Program.{Program}
 use Rattle.text.specs.declared.report.Of.{Of}
 use Rattle.text.specs.declared.trace.Event.the-variants.{Request, Response}
 use Rattle.text.specs.declared.trace.Event.{Event}
-use Rattle.text.proofs.RowLaws.{row-room, row-put, firsts-same, firsts-more}
+use Rattle.text.proofs.RowLaws.{row-room, row-put, row-other, firsts-same, firsts-more}
 use Rattle.ordering.specs.Maps.{upd}
 use Rattle.ordering.proofs.Basics.{clash, byEq, same-or, upd-same, upd-at, upd-other}
 use Rattle.model.specs.PlainRun.{Phase, absent, opened, closed}
@@ -24,7 +24,6 @@ use Rattle.machine.specs.Processes.{limit, firstLocals}
 use Rattle.host.specs.Moves.{progress}
 use Rattle.host.specs.Requests.{stateNumbers, isOpenIn, progressIn, localsIn}
 use Rattle.host.specs.Runs.{Seen, missing, going, over, seenRow, seenSlot, ridsOf, RowIs, M, seen, RequestsIs}
-use Rattle.host.proofs.RowsOther.{row-other}
 
 -- ── `of` rows ──
 of-row : (ofs : List ℕ) (s : ℕ) → s < 64 → ofAt ofs s ≡ ofFrom (row 3 ofs s)

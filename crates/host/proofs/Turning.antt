@@ -12,6 +12,7 @@ use lib.Dec.{ltb}
 use lib.ListN.{length, getD}
 use borrow.Author.Tests.{lt-ltb, le-ltb, ltb-true, ltb-false}
 use Rattle.lines.specs.Place.{cells}
+use Rattle.lines.proofs.FieldLaws.{cells-all}
 use Rattle.text.specs.Held.{noProgram, programAt, Bounded, ofAt, entryAt}
 use Rattle.text.specs.Rows.{row, withRow}
 use Rattle.text.specs.declared.programs.Instr.{Instr}
@@ -31,16 +32,16 @@ use Rattle.model.specs.Ranges.{requestsIn, responsesIn, arrivalsIn}
 use Rattle.model.proofs.Faithful.{hasArrived, isClosed, faithful-operate, faithful-reply, add-response}
 use Rattle.model.proofs.Ranges.{responses-few, requests-append}
 use Rattle.machine.specs.Index.{stored, performed, performOf}
-use Rattle.machine.specs.Instance.{Process, nextOf, intoOf, behindAll, codeAt, gone}
+use Rattle.machine.specs.Instance.{Process, nextOf, intoOf, behindAll, codeAt, gone, known}
 use Rattle.machine.specs.Logs.{ops}
 use Rattle.machine.specs.Objects.{atStart}
 use Rattle.machine.specs.Processes.{Advanced, limit, instrAt, advanceOf, resumed}
 use Rattle.machine.specs.declared.processes.Next.the-variants.{Operation, Reply, Cut}
 use Rattle.machine.specs.declared.processes.Next.{Next}
 use Rattle.machine.proofs.Bounds.{within}
+use Rattle.machine.proofs.Locals.{go-length, resumed-length}
 use Rattle.machine.proofs.Tables.{same-code, go-same}
 use Rattle.host.specs.Moves.{progress, counts, lineOf, joined, Operated, Replied, ReplyIs, OperationIs, NextIs, wentOn, TurnIs}
-use Rattle.host.specs.Recorded.{known}
 use Rattle.host.specs.Requests.{stateNumbers, isOpenIn, progressIn, localsIn, standingIn}
 use Rattle.host.specs.Runs.{missing, going, over, seenRow, seenSlot, M, seen, RequestsIs, LinesIs, RidIn, ranFrom}
 use Rattle.host.specs.declared.requests.Progress.{Progress}
@@ -50,7 +51,6 @@ use Rattle.host.specs.declared.steps.Counts.{Counts}
 use Rattle.host.specs.declared.steps.Step.the-variants.{Broken, On}
 use Rattle.host.specs.declared.steps.Step.{Step}
 use Rattle.host.proofs.EventRows.{event-joins}
-use Rattle.host.proofs.Locals.{go-length, resumed-length, cells-all}
 use Rattle.host.proofs.LogLines.{ObjectsIs, line-joins, answer-is, line-done}
 use Rattle.host.proofs.Running.{
   T,
@@ -347,7 +347,7 @@ module _ (ps : Programs) (moves arrivals : List ℕ) (n i : ℕ) (c : Counts) (s
               λ j. going (p .prog) (resumed (goes j .locals) (intoOf (goes j .stop .next)) (sym answers j))
               (goes j .stop .at) (goes j .stop .done) (suc k) in
               let into-is : intoOf (went .stop .next) ≡ into = ap intoOf z in
-              let all : cells 8 l ≡ l = cells-all l (resumed-length (went .locals) into answer ∙ eight) in
+              let all : cells 8 l ≡ l = cells-all 8 l (resumed-length (went .locals) into answer ∙ eight) in
               let f : going (p .prog) (resumed (went .locals) (intoOf (went .stop .next)) answer) (went .stop .at) (went .stop .done) (suc k)
               ≡ going (progressIn v .prog) l (went .stop .at) (went .stop .done) (suc k) =
               λ j. going (is .prog j) (resumed (went .locals) (into-is j) answer) (went .stop .at) (went .stop .done) (suc k) in

@@ -19,10 +19,10 @@ use Rattle.model.specs.Host.{Host, Result, fault, made, empty, runFrom}
 use Rattle.model.specs.Machine.{Machine}
 use Rattle.model.specs.PlainRun.{Phase, absent, opened, closed}
 use Rattle.model.specs.Ranges.{arrivalsIn}
-use Rattle.machine.specs.Instance.{machine}
+use Rattle.machine.specs.Instance.{machine, known}
 use Rattle.machine.specs.Objects.{atStart}
 use Rattle.machine.specs.Processes.{limit}
-use Rattle.host.specs.Recorded.{known}
+use Rattle.host.specs.Recorded.{andThen, runOf, Texts, textsOf, fitted}
 use Rattle.host.specs.Requests.{isOpenIn, progressIn, localsIn, waitsIn, standingIn}
 use Rattle.host.specs.Steps.{linesOf}
 use Rattle.host.specs.declared.runs.Run.the-variants.{Breaks, Ends}
@@ -111,18 +111,26 @@ ranFrom table line ms h = runFrom (M table) (known table) mostEntries line ms h
 abbrev pub ran : (table : List Program) → List Move → Result (Host (M table))
 ran table ms = ranFrom table 1 ms (empty (M table) atStart)
 
+-- rows 14 to 16
+abbrev pub recordedMoves : List Program → List Move → (roomForTrace roomForReport : ℕ) → Result Texts
+recordedMoves table ms m n = andThen (runOf table ms) (λ b. fitted m n (textsOf b))
+
 module _ (ps : Programs) (moves arrivals : List ℕ) (n : ℕ) where
   abbrev moved : List Move
   moved = movesIn moves arrivals n
 
-  -- what is asked of the programs, the schedule and the arrays
-  pub record Ready (slots states ofs events logs : List ℕ) : Type 0 where
+  -- what is known of programs and a schedule that were read
+  pub record Scheduled : Type 0 where
     pub few : ps .n ≤ 16
     pub bounded : (i : ℕ) → i < ps .n → Bounded (getD (ps .table) i noProgram)
     pub lines : n ≤ 9362
     pub movesRoom : length moves ≡ 9362
     pub rids : All RidIn moved
     pub arrivalsFew : arrivalsIn moved ≤ 64
+
+  -- with arrays for a run
+  pub record Ready (slots states ofs events logs : List ℕ) : Type 0 where
+    pub scheduled : Scheduled
     pub slotsBlank : slots ≡ replicate 65536 0
     pub statesRoom : length states ≡ 768
     pub ofsRoom : length ofs ≡ 192

@@ -30,7 +30,7 @@ use Rattle.model.specs.Audit.{row4, row4Open, row6, row7, row8, row9, replayChe
 use Rattle.model.specs.Batch.{Batch}
 use Rattle.model.specs.Checks.{Verdict, Check, check, verdict, firstFault}
 use Rattle.model.proofs.Trace.{Matching, row4-order, row6-matching}
-use Rattle.machine.specs.Instance.{machine}
+use Rattle.machine.specs.Instance.{known, machine}
 use Rattle.machine.specs.Objects.{atStart}
 use Rattle.machine.specs.Processes.{limit}
 use Rattle.machine.specs.Rules.{rulingOf}
@@ -40,7 +40,7 @@ use Rattle.machine.proofs.Tables.{same-code}
 use Rattle.replay.specs.Judges.{batchIn, Ready, checks, Judges}
 use Rattle.replay.specs.declared.Fault.{Fault}
 use Rattle.verifier.specs.Accepts.{Accepts}
-use Rattle.verifier.specs.Faults.{badLine, contents, brokenLine, row2, known, batchOf, audited, auditedOf, auditOf}
+use Rattle.verifier.specs.Faults.{badLine, contents, brokenLine, row2, batchOf, audited, auditedOf, auditOf}
 use Rattle.verifier.specs.Steps.{
   refusal,
   tableIn,

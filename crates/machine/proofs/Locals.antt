@@ -1,19 +1,16 @@
--- A request keeps its eight locals.
-use Prim.Native.Nat.{ℕ, zero, suc, _+_, _%_, _≤_}
+-- A request keeps as many locals as it has.
+use Prim.Native.Nat.{ℕ, zero, suc, _+_, _%_}
 use mathlib.Core.Bool.{Bool, true, false, cond}
-use mathlib.Core.List.{List, [], _∷_}
-use mathlib.Core.Path.{_≡_, refl, sym, ap, _∙_}
-use native.Mathlib.Omega.{arith}
+use mathlib.Core.List.{List}
+use mathlib.Core.Path.{_≡_, refl, _∙_}
 use lib.Dec.{ltb}
-use lib.ListN.{length, getD, take, drop, set, length-set}
-use lib.Seq.{take-all, drop-cons}
-use Rattle.lines.specs.Place.{cellsFrom, cells}
+use lib.ListN.{length, set, length-set}
 use Rattle.text.specs.declared.programs.Instr.{Instr}
 use Rattle.machine.specs.Codes.{Code, reply, constant, add, subtract, less, jump, read, write, get, put, other, codeOf}
 use Rattle.machine.specs.Instructions.{Effect, effectAs, effectOf, noLocal}
 use Rattle.machine.specs.Processes.{Advanced, instrAt, behind, follow, go, resumed}
 use Rattle.machine.specs.declared.instructions.Act.the-variants.{Goes, Asks, Replies}
 use Rattle.machine.specs.declared.instructions.Act.{Act}
 
 effect-length : (c : Code) (l : List ℕ) (i : Instr) (n : ℕ) → length (effectAs c l i n .locals) ≡ length l
 unfolding effectAs
@@ -51,11 +48,3 @@ resumed-length l into v = by (ltb into noLocal)
     by : (b : Bool) → length (cond b (set l into v) l) ≡ length l
     by true = length-set l into v
     by false = refl
-
-cells-from : (n i : ℕ) (v : List ℕ) → i + n ≤ length v → cellsFrom n i v ≡ take n (drop i v)
-cells-from zero i v h = refl
-cells-from (suc n) i v h =
-    ap (λ l. getD v i 0 ∷ l) (cells-from n (suc i) v (omega arith)) ∙ ap (take (suc n)) (sym (drop-cons v i 0 (omega arith)))
-
-pub cells-all : (l : List ℕ) → length l ≡ 8 → cells 8 l ≡ l
-cells-all l h = cells-from 8 0 l (omega (arith, h)) ∙ take-all 8 l (omega (arith, h))
