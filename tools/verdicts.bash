@@ -123,12 +123,12 @@ text_of() { # VERDICT
 # The bytes of a line, at most 100 of them; what is not printable is shown as sed's command l shows it.
 line_bytes() { # TEXT LINE
   local feeds bytes front more=
-  read -r feeds bytes < <(sed -n "$2{p;q}" "$1" | wc -lc)
+  read -r feeds bytes < <(sed -n "$2p" "$1" | wc -lc)
   if [ "$bytes" -eq 0 ]; then
     echo ', which is behind its end'
     return
   fi
-  front=$(sed -n "$2{p;q}" "$1" | cut -b 1-100 | sed -n 'l 0')
+  front=$(sed -n "$2p" "$1" | cut -b 1-100 | sed -n 'l 0')
   if [ $((bytes - feeds)) -gt 100 ]; then more=' and more'; fi
   if [ "$feeds" -eq 0 ]; then more+=', without a line feed'; fi
   echo ": \"${front%\$}\"$more"
