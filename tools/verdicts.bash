@@ -30,10 +30,12 @@ build_program() { # NAME
   local program=$root/target/bin/$1
   if [ -f "$program" ] && [ -x "$program" ]; then return; fi
   say "target/bin/$1 is not there: 'rt check $1' proves and builds it (some minutes where nothing is proved yet)"
+  rm -f "$root/target/stamp/$1" # by which rt would take the program for built
   if ! (cd "$root" && rt check "$1") </dev/null >&2; then
     rm -f "$program"
     could_not "'rt check $1' did not prove and build the program"
   fi
+  [ -x "$program" ] || could_not "'rt check $1' built no program"
 }
 
 enter_folder() { # DIR
