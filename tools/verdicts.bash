@@ -68,6 +68,14 @@ read_output() { # OUTPUT
   [ "$verdict" != 0 ] || [ "$line" = 0 ]
 }
 
+# Sets requests and operations from the lines behind the verdict of an audit.
+read_counts() {
+  local form=$'^requests=([0-9]+)\noperations=([0-9]+)\n'
+  [[ $rest =~ $form ]] || return 1
+  requests=${BASH_REMATCH[1]}
+  operations=${BASH_REMATCH[2]}
+}
+
 # Runs target/bin/NAME in the working directory, which has (or lacks) these texts, and sets output.
 run_program() { # NAME TEXT...
   local name=$1 before
