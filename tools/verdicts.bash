@@ -1,5 +1,5 @@
 # What the tools share (sourced, not run): running a proved program on the texts of a folder, and saying its verdict in the
-# words of the scope. Sets root, tools; run_program sets verdict, line, rest, missing.
+# words of the scope. Sets root and tools; run_program sets output, verdict, line, rest and missing.
 # shellcheck shell=bash
 export LC_ALL=C
 trap '' PIPE # a closed standard output is a failed write, and not the end of the tool
