@@ -47,15 +47,19 @@ record-moves-requires c κs =
 
 returns-4 : tie.Need-returns-4
 returns-4 c =
-    let r = c .before .before .before .before .before .before .before .before .before .before .before .before .before .before .before .before .before in
+    let at-record-moves = c .before .before .before .before in
+    let at-n = at-record-moves .before .before .before .before .before .before in
+    let at-before = at-n .before in
+    let at-before′ = at-before .before .before .before .before .before in
+    let r = at-before′ .before in
     let p = r .before .before .before in
-    let s = c .before .before .before .before .before .before .before .before .before .before .before .before in
+    let s = at-before .before in
     promised _ _ _ _ _ _ _
     (record-as _ _ _ _ _ _ _
     (past-13 _ _ _ _ _ (p .read-programs .ensures) (not-false _ (r .before .if1 .left)) _ (r .check-rules .ensures)
     (s .before .before .before .enum-told .given .1) _ _ _ (s .read-schedule .ensures) _
-    (c .before .before .before .before .before .before .before .before .before .before .n .given .1))
-    (c .before .before .before .before .record-moves .ensures))
+    (at-n .n .given .1))
+    (at-record-moves .record-moves .ensures))
 
 pub record-spec : {M : Type 1} → statement M
 record-spec =

@@ -80,7 +80,8 @@ turn-requires c κs =
 
 add-t53 : tie.Need-add-t53 Inv-loop μ-loop
 add-t53 c =
-    let t = c .before .before .before .before .before .before .before .before .before .before .before .before .before .before .before .before .before .before .before .before .before in
+    let s = c .before .before .before .before .before .before .before .before .before .before .before .before in
+    let t = s .before .before .before .before .before .before .before .before .before in
     omega (arith, t .loop-test .taken, t .before .loop .inv .scheduled)
 
 returns-3 : tie.Need-returns-3 Inv-loop μ-loop
@@ -96,7 +97,8 @@ returns-3 c =
 
 add-i-3 : tie.Need-add-i-3 Inv-loop μ-loop
 add-i-3 c =
-    let t = c .before .before .before .before .before .before .before .before .before .before .before .before .before .before .before .before .before .before .before .before .before .before in
+    let s = c .before .before .before .before .before .before .before .before .before .before .before .before .before in
+    let t = s .before .before .before .before .before .before .before .before .before in
     omega (arith, t .loop-test .taken, t .before .loop .inv .scheduled)
 
 loop-again-3 : tie.Need-loop-again-3 Inv-loop μ-loop
