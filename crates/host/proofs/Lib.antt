@@ -9,6 +9,13 @@ pub mod Fitting
 pub mod Going
 pub mod Picking
 pub mod Sorting
-pub mod RowsOther
 pub mod States
 pub mod Promises
+pub mod Slots
+pub mod LogLines
+pub mod EventRows
+pub mod Running
+pub mod Arriving
+pub mod Turning
+pub mod Finishing
+pub mod Recording

@@ -1,5 +1,5 @@
 -- Laws that bring the promises of a line's leaves together.
-use Prim.Native.Nat.{ℕ, _+_, _%_}
+use Prim.Native.Nat.{ℕ, _+_}
 use mathlib.Core.List.{List, [], _∷_}
 use mathlib.Core.Path.{_≡_, sym, ap, subst, _∙_}
 use Rattle.lines.specs.Place.{cells}
@@ -29,13 +29,13 @@ locals-as states states′ s n x l m e d = e ∙ ap (λ l. withRow 12 states s (
 -- the request's `of` line is x
 module _ (ofs : List ℕ) (s rid : ℕ) (x : Of) (e : x ≡ ofAt ofs s) where
   pub line-as : (logs logs′ : List ℕ) (i : ℕ) (o : Op) →
-      logs′ ≡ withRow 6 logs i (entryNumbers (record { rid = rid; num = x .count % 65536 + 1; op = o })) →
+      logs′ ≡ withRow 6 logs i (entryNumbers (record { rid = rid; num = x .count + 1; op = o })) →
       logs′ ≡ joined logs i (lineOf ofs s rid o)
-  line-as logs logs′ i o d = d ∙ ap (λ x. withRow 6 logs i (entryNumbers (record { rid = rid; num = x .count % 65536 + 1; op = o }))) e
+  line-as logs logs′ i o d = d ∙ ap (λ x. withRow 6 logs i (entryNumbers (record { rid = rid; num = x .count + 1; op = o }))) e
 
-  pub count-as : (ofs′ : List ℕ) → ofs′ ≡ withRow 3 ofs s (rid ∷ s ∷ (x .count % 65536 + 1) ∷ []) →
-      ofs′ ≡ withRow 3 ofs s (rid ∷ s ∷ (ofAt ofs s .count % 65536 + 1) ∷ [])
-  count-as ofs′ d = d ∙ ap (λ x. withRow 3 ofs s (rid ∷ s ∷ (x .count % 65536 + 1) ∷ [])) e
+  pub count-as : (ofs′ : List ℕ) → ofs′ ≡ withRow 3 ofs s (rid ∷ s ∷ (x .count + 1) ∷ []) →
+      ofs′ ≡ withRow 3 ofs s (rid ∷ s ∷ (ofAt ofs s .count + 1) ∷ [])
+  count-as ofs′ d = d ∙ ap (λ x. withRow 3 ofs s (rid ∷ s ∷ (x .count + 1) ∷ [])) e
 
 pub performed-as : (logs logs′ : List ℕ) (i : ℕ) (registers heads befores : List ℕ) (p : Performed) → logs ≡ logs′ →
     p ≡ performOf (ops (entryAt logs)) i registers heads befores → p ≡ performOf (ops (entryAt logs′)) i registers heads befores

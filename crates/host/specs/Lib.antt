@@ -5,3 +5,4 @@ pub mod Accepted
 pub mod Steps
 pub mod Requests
 pub mod Moves
+pub mod Runs

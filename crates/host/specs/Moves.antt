@@ -46,7 +46,7 @@ pub record ArriveIs (n : ℕ) (c : Counts) (rid prog a b : ℕ) (slots states of
 -- ── a turn of the request in slot s ──
 -- its next log line
 abbrev pub lineOf : (ofs : List ℕ) (s rid : ℕ) → Op → Entry
-lineOf ofs s rid o = record { rid = rid; num = ofAt ofs s .count % 65536 + 1; op = o }
+lineOf ofs s rid o = record { rid = rid; num = ofAt ofs s .count + 1; op = o }
 
 -- the log with that line at place i
 abbrev pub joined : (logs : List ℕ) (i : ℕ) → Entry → List ℕ
@@ -59,7 +59,7 @@ pub record Operated (c : Counts) (s rid : ℕ) (x : Progress) (l : List ℕ) (o 
   pub objects : performed registers′ (stored answer heads′ befores′)
       ≡ performOf (ops (entryAt (joined logs (c .operations) (lineOf ofs s rid o)))) (c .operations) registers heads befores
   pub state : states′ ≡ withRow 12 states s (stateNumbers 1 x (cells 8 (resumed l into answer)))
-  pub own : ofs′ ≡ withRow 3 ofs s (rid ∷ s ∷ (ofAt ofs s .count % 65536 + 1) ∷ [])
+  pub own : ofs′ ≡ withRow 3 ofs s (rid ∷ s ∷ (ofAt ofs s .count + 1) ∷ [])
   pub counted : r ≡ counts (c .requests) (c .events) (c .operations + 1)
 
 pub record Replied (c : Counts) (s rid : ℕ) (x : Progress) (l : List ℕ) (status value : ℕ) (states events states′ events′ : List ℕ)

@@ -19,11 +19,9 @@ use text::Program;
 use text::of_at;
 ghost use mathlib.Core.Path.{_≡_};
 ghost use mathlib.Core.List.{[], _∷_};
-ghost use Prim.Native.Nat.{_<_};
-ghost use lib.ListN.{getD};
-ghost use Rattle.text.specs.Rows.{row, withRow};
-ghost use Rattle.machine.specs.Processes.{limit, advanceOf};
-ghost use Rattle.host.specs.Requests.{progressIn, localsIn};
+ghost use Prim.Native.Nat.{_<_, _≤_};
+ghost use Rattle.text.specs.Held.{ofAt};
+ghost use Rattle.text.specs.Rows.{withRow};
 ghost use Rattle.host.specs.Moves.{Arrived, Operated, Replied, ArriveIs, TurnIs};
 
 // How many requests have arrived, and how many events and log lines there are.
@@ -133,13 +131,13 @@ fn operate(
     heads: &mut [u16; 1016],
     befores: &mut [u16; 1024],
 ) -> Counts
-    requires { ⌜ (s < 64) × (c .operations < 1024) ⌝ }
+    requires { ⌜ (s < 64) × (c .operations < 1024) × (ofAt (now ofs) s .count ≤ c .operations) ⌝ }
     ensures { λ r. ⌜ Operated c s rid x (now (l .entry)) o into
         (now (states .entry)) (now (ofs .entry)) (now (logs .entry)) (now (registers .entry)) (now (heads .entry)) (now (befores .entry))
         (now (states .exit)) (now (ofs .exit)) (now (logs .exit)) (now (registers .exit)) (now (heads .exit)) (now (befores .exit)) r ⌝ }
 {
     let own = of_at(ofs, s);
-    let num = own.count % 65536 + 1;
+    let num = own.count + 1;
     let i = c.operations;
     put_line(logs, i, Entry { rid, num, op: o });
     let v = perform(logs, i, registers, heads, befores);
@@ -192,7 +190,7 @@ pub(crate) fn turn(
     heads: &mut [u16; 1016],
     befores: &mut [u16; 1024],
 ) -> Step
-    requires { ⌜ (s < 64) × (c .events < 128) ⌝ }
+    requires { ⌜ (s < 64) × (c .events < 128) × (ofAt (now ofs) s .count ≤ c .operations) ⌝ }
     ensures { λ r. ⌜ TurnIs (p .code) c s rid
         (now (states .entry)) (now (ofs .entry)) (now (events .entry)) (now (logs .entry))
         (now (registers .entry)) (now (heads .entry)) (now (befores .entry))

@@ -7,6 +7,7 @@ pub mod Steps
 pub mod Turns
 pub mod Tables
 pub mod Bounds
+pub mod Locals
 pub mod Nearest
 pub mod Chains
 pub mod Passing

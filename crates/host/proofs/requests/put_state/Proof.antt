@@ -1,7 +1,7 @@
 use Prim.Native.Nat.{_*_}
 use denote.Ref.{now}
 use Rattle.text.specs.Rows.{withRow}
-use Rattle.host.proofs.RowsOther.{sets-twelve}
+use Rattle.text.proofs.RowLaws.{sets-twelve}
 use borrow.Author.Needs.{needs}
 use Rattle.host.proofs.requests.put_state.Statement.{statement}
 use Rattle.host.proofs.requests.put_state.Tie as tie

@@ -1,3 +1,4 @@
+use native.Mathlib.Omega.{arith}
 use denote.Ref.{now}
 use Rattle.host.proofs.Promises.{locals-as, line-as, count-as, performed-as}
 use Rattle.host.specs.Requests.{stateNumbers}
@@ -22,7 +23,9 @@ of-at-requires c κs = search needs
 
 -- src/steps.rt:132:15
 add-num : tie.Need-add-num
-add-num c = search needs
+add-num c =
+    let p = c .before .before .before .pre in
+    omega (arith, ap (λ x. x .count) (c .before .of-at .ensures), p .1, p .2)
 
 -- src/steps.rt:134:5
 put-line-requires : tie.Need-put-line-requires
@@ -45,8 +48,8 @@ put-of-requires : tie.Need-put-of-requires
 put-of-requires c κs = search needs
 
 -- src/steps.rt:142:21
-add-t31 : tie.Need-add-t31
-add-t31 c = search needs
+add-t30 : tie.Need-add-t30
+add-t30 c = search needs
 
 -- src/steps.rt:111:1
 returns : tie.Need-returns
@@ -74,5 +77,5 @@ operate-spec =
     resume-requires
     put-state-requires
     put-of-requires
-    add-t31
+    add-t30
     returns)
