@@ -15,6 +15,20 @@ extern "C" {
         out: *mut u64,
         out_length: usize,
     ) -> usize;
+
+    #[cfg(feature = "record")]
+    fn teaselshears_record(
+        programs: *const u8,
+        programs_length: usize,
+        schedule: *const u8,
+        schedule_length: usize,
+        trace: *mut u8,
+        trace_length: usize,
+        report: *mut u8,
+        report_length: usize,
+        out: *mut u64,
+        out_length: usize,
+    ) -> usize;
 }
 
 const NUMBERS: usize = 4;
@@ -42,5 +56,43 @@ pub fn audit(batch: &BatchTexts) -> Audited {
         line: line as usize,
         requests: requests as usize,
         operations: operations as usize,
+    }
+}
+
+/// What the host answers; what it wrote stands in the two buffers.
+#[cfg(feature = "record")]
+#[derive(Clone, Copy, Debug, PartialEq, Eq)]
+pub struct Recorded {
+    pub verdict: u64,
+    pub line: usize,
+    pub trace_length: usize,
+    pub report_length: usize,
+}
+
+#[cfg(feature = "record")]
+pub fn record(programs: &[u8], schedule: &[u8], trace: &mut [u8], report: &mut [u8]) -> Recorded {
+    let mut out = [u64::MAX; NUMBERS];
+    // SAFETY: as above; the two buffers and `out` are lent to the call alone.
+    let written = unsafe {
+        teaselshears_record(
+            programs.as_ptr(),
+            programs.len(),
+            schedule.as_ptr(),
+            schedule.len(),
+            trace.as_mut_ptr(),
+            trace.len(),
+            report.as_mut_ptr(),
+            report.len(),
+            out.as_mut_ptr(),
+            out.len(),
+        )
+    };
+    assert_eq!(written, NUMBERS);
+    let [verdict, line, trace_length, report_length] = out;
+    Recorded {
+        verdict,
+        line: line as usize,
+        trace_length: trace_length as usize,
+        report_length: report_length as usize,
     }
 }
