@@ -1,5 +1,6 @@
 //! The schedules that are measured, each with the batch that the host makes of it.
 
+use crate::checks::lines_with;
 use crate::host::Host;
 use crate::texts::{
     read_programs, write_report, write_schedule, write_trace, BatchTexts, Entry, Request,
@@ -15,18 +16,14 @@ pub struct Measured {
 impl Measured {
     /// How large the input is.
     pub fn sizes(&self) -> String {
-        let count = |text: &[u8], word: &[u8]| {
-            let lines = text.split(|&byte| byte == b'\n');
-            lines.filter(|line| line.starts_with(word)).count()
-        };
         let BatchTexts { trace, report, .. } = &self.batch;
         format!(
             "{}: {} requests, {} operations, {} bytes of report; {} turns, {} bytes of schedule",
             self.name,
-            count(trace, b"request="),
-            count(report, b"log="),
+            lines_with(trace, b"request="),
+            lines_with(report, b"log="),
             report.len(),
-            count(&self.schedule, b"turn="),
+            lines_with(&self.schedule, b"turn="),
             self.schedule.len()
         )
     }
