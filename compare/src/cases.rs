@@ -26,9 +26,16 @@ pub struct Case {
 
 /// So many cases: the worked ones, then half of them from the fixed seed and the rest from this one.
 pub fn cases(count: usize, seed: u64) -> impl Iterator<Item = Case> {
-    let fixed = (0..count.div_ceil(2) as u64).map(|number| random_case(FIXED_SEED, number));
     let varied = (0..).map(move |number| random_case(seed, number));
-    worked_cases().chain(fixed).chain(varied).take(count)
+    worked_cases()
+        .chain(fixed(count.div_ceil(2)))
+        .chain(varied)
+        .take(count)
+}
+
+/// So many cases from the fixed seed.
+pub fn fixed(count: usize) -> impl Iterator<Item = Case> {
+    (0..count as u64).map(|number| random_case(FIXED_SEED, number))
 }
 
 fn worked_cases() -> impl Iterator<Item = Case> {
