@@ -121,11 +121,20 @@ fn print_table() -> Result<(), String> {
             print_measured(subject, "instructions", [proved?, rust?], 0);
         }
     }
-    println!();
-    for subject in &subjects {
-        println!("{}", subject.measured.sizes());
-    }
+    print_sizes(&subjects);
     Ok(())
+}
+
+/// The size of each input, once.
+fn print_sizes(subjects: &[Subject]) {
+    println!();
+    let mut sizes: Vec<String> = Vec::new();
+    for size in subjects.iter().map(|subject| subject.measured.sizes()) {
+        if !sizes.contains(&size) {
+            println!("{size}");
+            sizes.push(size);
+        }
+    }
 }
 
 fn print_measured(subject: &Subject, what: &str, [proved, rust]: [f64; 2], decimals: usize) {

@@ -72,13 +72,15 @@ pub fn growing(lines: usize) -> Measured {
     run(&name, &programs(MIXED), arrivals(lines as u64 / 16), 0)
 }
 
-/// Sixty-four requests with 1,024 operations, and turns after the responses up to 9,000 in all.
+/// Sixty-four requests with 1,024 operations and short numbers, and turns after the responses up to 9,000.
 pub fn longest_schedule() -> Measured {
-    let short = arrivals(64)
-        .into_iter()
-        .zip(0..)
-        .map(|(request, rid)| Request { rid, ..request });
-    let arrivals: Vec<Request> = short.collect();
+    let request = |place| Request {
+        rid: place,
+        program: place % 16,
+        a: place % 8,
+        b: place,
+    };
+    let arrivals = (0..64).map(request).collect();
     run("longest schedule", &programs(MIXED), arrivals, 9_000)
 }
 
