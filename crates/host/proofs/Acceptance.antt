@@ -5,6 +5,7 @@ use mathlib.Core.List.{List, [], _∷_}
 use mathlib.Core.Option.{Option, none, some}
 use mathlib.Core.Path.{_≡_, refl, ap, subst, _∙_}
 use native.Mathlib.Omega.{arith}
+use borrow.Author.Tests.{le-leb}
 use lib.Dec.{leb}
 use lib.ListN.{length}
 use Rattle.text.specs.Programs.{readPrograms}
@@ -48,31 +49,33 @@ use Rattle.model.specs.PlainRun.{Phase}
 use Rattle.model.specs.Ranges.{requestsIn, responsesIn, FitEvent, FitEntry, FitOf, FitMove, FitBatch}
 use Rattle.model.proofs.Main.{host-accepted, host-in-range}
 use Rattle.model.proofs.Recorded.{recorded-wrote}
-use Rattle.machine.specs.Instance.{codeAt, machine}
+use Rattle.machine.specs.Instance.{codeAt, known, machine}
 use Rattle.machine.specs.Objects.{register, store, reads, isRegister, atStart}
 use Rattle.machine.specs.Processes.{limit, instrAt}
 use Rattle.machine.specs.declared.objects.Cell.the-variants.{Never}
 use Rattle.machine.specs.Rules.{rulingOf}
 use Rattle.machine.specs.declared.rules.Ruling.the-variants.{Kept, Broken}
 use Rattle.machine.specs.declared.rules.Ruling.{Ruling}
-use Rattle.machine.proofs.Bounds.{Word, within}
+use Rattle.machine.proofs.Bounds.{Word, within, bounded}
+use Rattle.verifier.specs.Faults.{brokenLine, auditOf}
+use Rattle.verifier.specs.declared.Audited.{Audited}
+use Rattle.verifier.proofs.Acceptance.{audit-of-accepted}
 use Rattle.host.specs.Accepted.{Accepted}
 use Rattle.host.specs.Recorded.{
   andThen,
   readAs,
   ruled,
   tableOf,
-  known,
   runOf,
   batchOf,
   Texts,
   textsOf,
   fitted,
   recordOf,
-  resultOf,
-  writtenOf,
+  RecordIs,
 }
-use Rattle.host.proofs.Bounds.{numbered}
+use Rattle.host.specs.declared.Recorded.{Recorded}
+use Rattle.host.proofs.Fronts.{trace-front, report-front}
 use Rattle.host.proofs.Readings.{MoveIn, ScheduleIn, programs-words, schedule-in}
 
 -- ── numbers of lines ──
@@ -124,7 +127,7 @@ module _ (table : List Program) (words : (prog at : ℕ) → Word (instrAt (code
   M = machine limit table
 
   abbrev B : Bounded M
-  B = numbered limit table words
+  B = bounded limit table words
 
   move-fit : (m : Move) → MoveIn m → FitMove M B Rid m
   move-fit (Arrive r prog a b) h = (h .0, (h .1 .0, (h .1 .1 .0, h .1 .1 .1)))
@@ -191,24 +194,35 @@ module _ (table : List Program) (words : (prog at : ℕ) → Word (instrAt (code
         let k : length (b .ofs) ≡ requestsIn (b .trace) = subst (λ b. length (b .ofs) ≡ requestsIn (b .trace)) (w .batch) n in
         omega (arith, k, fit .requests, s .few)
 
+    trace-in : texts.All EventIn (b .trace)
+    trace-in = all-in (FitEvent M B Rid) EventIn event-in (b .trace) (fit .events)
+
+    trace-short : length (textsOf b .trace) ≤ 65535
+    trace-short = omega (arith, trace-bound (b .trace) trace-in, events-length (b .trace), fit .requests, fit .responses, s .few)
+
     trace-read : readTrace (textsOf b .trace) ≡ readable (b .trace)
     trace-read =
-        let f = fit in
-        let es = b .trace in
-        let g = all-in (FitEvent M B Rid) EventIn event-in es (f .events) in
-        trace-back es g
-        (omega (arith, requests-count es, f .requests, s .few))
-        (omega (arith, responses-count es, f .responses, s .few))
-        (omega (arith, trace-bound es g, events-length es, f .requests, f .responses, s .few))
+        trace-back (b .trace) trace-in
+        (omega (arith, requests-count (b .trace), fit .requests, s .few))
+        (omega (arith, responses-count (b .trace), fit .responses, s .few))
+        trace-short
 
-    report-read : readReport (textsOf b .report) ≡ readable (record { ofs = b .ofs; log = b .log })
-    report-read =
-        let f = fit in
-        let r : Report = record { ofs = b .ofs; log = b .log } in
-        let g = all-in (FitOf M B Rid (requestsIn (b .trace))) OfIn (of-in (requestsIn (b .trace)) (omega (arith, f .requests, s .few)))
-        (b .ofs) (f .ofs) in
-        let h = all-in (FitEntry M B Rid) EntryIn entry-in (b .log) (f .lines) in
-        report-back r g h few-ofs (f .operations) (omega (arith, report-bound r g h, few-ofs, f .operations))
+    abbrev report : Report
+    report = record { ofs = b .ofs; log = b .log }
+
+    ofs-in : texts.All OfIn (b .ofs)
+    ofs-in =
+        all-in (FitOf M B Rid (requestsIn (b .trace))) OfIn (of-in (requestsIn (b .trace)) (omega (arith, fit .requests, s .few))) (b .ofs)
+        (fit .ofs)
+
+    log-in : texts.All EntryIn (b .log)
+    log-in = all-in (FitEntry M B Rid) EntryIn entry-in (b .log) (fit .lines)
+
+    report-short : length (textsOf b .report) ≤ 65535
+    report-short = omega (arith, report-bound report ofs-in log-in, few-ofs, fit .operations)
+
+    report-read : readReport (textsOf b .report) ≡ readable report
+    report-read = report-back report ofs-in log-in few-ofs (fit .operations) report-short
 
 -- ── the checks ──
 
@@ -237,34 +251,59 @@ fitted-made m n t u e = by (leb (length (t .trace)) m && leb (length (t .report)
     by true e = cc
     by false e = clash (cc)
 
-batch-accepted : (programs schedule : List ℕ) (b : Batch) → batchOf programs schedule ≡ made b →
-    Accepted programs (textsOf b .trace) (textsOf b .report)
+-- the run that made a batch
+record Ran (programs schedule : List ℕ) (b : Batch) : Type 0 where
+  table : List Program
+  tableRead : readPrograms programs ≡ readable table
+  rules : rulingOf table ≡ Kept
+  moves : List Move
+  movesIn : ScheduleIn moves
+  run : runOf table moves ≡ made b
+
+ran : (programs schedule : List ℕ) (b : Batch) → batchOf programs schedule ≡ made b → Ran programs schedule b
 unfolding batchOf
-batch-accepted programs schedule b e =
+ran programs schedule b e =
     let t = through (tableOf programs) _ b e in
     let s = through (readAs 13 (readSchedule schedule)) _ b (t .behind) in
     let r = through (readAs 1 (readPrograms programs)) (λ table. ruled table (rulingOf table)) (t .from) (t .before) in
     let k = ruled-made (t .from) (r .from) (rulingOf (r .from)) (r .behind) in
-    let d : readPrograms programs ≡ readable (t .from) = read-made 1 (readPrograms programs) (r .from) (r .before) ∙ ap readable (k .0) in
-    let i = schedule-in schedule (s .from) (read-made 13 (readSchedule schedule) (s .from) (s .before)) in
-    let w = programs-words programs (t .from) d in
     record {
       table = t .from;
-      tableRead = d;
+      tableRead = read-made 1 (readPrograms programs) (r .from) (r .before) ∙ ap readable (k .0);
       rules = subst (λ table. rulingOf table ≡ Kept) (k .0) (k .1);
-      batch = b;
-      traceRead = trace-read (t .from) w (s .from) i b (s .behind);
-      reportRead = report-read (t .from) w (s .from) i b (s .behind);
-      audited = host-accepted (machine limit (t .from)) atStart (known (t .from)) 1024 16 (within limit (t .from)) (s .from) b (s .behind);
+      moves = s .from;
+      movesIn = schedule-in schedule (s .from) (read-made 13 (readSchedule schedule) (s .from) (s .before));
+      run = s .behind;
     }
 
-record-accepted : (programs schedule : List ℕ) (m n : ℕ) (t : Texts) → recordOf programs schedule m n ≡ made t →
-    Accepted programs (t .trace) (t .report)
-unfolding recordOf
-record-accepted programs schedule m n t e =
-    let b = through (batchOf programs schedule) (λ b. fitted m n (textsOf b)) t e in
-    subst (λ t. Accepted programs (t .trace) (t .report)) (fitted-made m n (textsOf (b .from)) t (b .behind))
-    (batch-accepted programs schedule (b .from) (b .before))
+-- the result of the audit that accepts a batch
+abbrev accepted : Batch → Audited
+accepted b = record { verdict = 0; line = 0; requests = count isRequest (b .trace); operations = length (b .log) }
+
+module _ (programs schedule : List ℕ) (b : Batch) (e : batchOf programs schedule ≡ made b) where
+  batch-accepted : auditOf programs (textsOf b .trace) (textsOf b .report) ≡ accepted b
+  batch-accepted =
+      let r = ran programs schedule b e in
+      let w = programs-words programs (r .table) (r .tableRead) in
+      audit-of-accepted programs (textsOf b .trace) (textsOf b .report) (r .table) (b .trace) (record { ofs = b .ofs; log = b .log })
+      (r .tableRead)
+      (trace-read (r .table) w (r .moves) (r .movesIn) b (r .run))
+      (report-read (r .table) w (r .moves) (r .movesIn) b (r .run))
+      (ap brokenLine (r .rules))
+      (host-accepted (machine limit (r .table)) atStart (known (r .table)) 1024 16 (within limit (r .table)) (r .moves) b (r .run))
+
+  -- buffers as long as a text may be are never too short
+  pub never-short : recordOf programs schedule 65535 65535 ≡ made (textsOf b)
+  unfolding recordOf
+  never-short =
+      let r = ran programs schedule b e in
+      let w = programs-words programs (r .table) (r .tableRead) in
+      rw (
+        e,
+        le-leb (length (textsOf b .trace)) 65535 (trace-short (r .table) w (r .moves) (r .movesIn) b (r .run)),
+        le-leb (length (textsOf b .report)) 65535 (report-short (r .table) w (r .moves) (r .movesIn) b (r .run)),
+      )
+      refl
 
 -- ── a refusal has a number of its own ──
 abbrev Numbered : {A : Type 0} → Result A → Type 0
@@ -323,12 +362,33 @@ record-numbered programs schedule m n =
     (λ moves. run-numbered (machine limit table) (known table) 1024 16 atStart moves)))
     (λ b. fitted-numbered m n (textsOf b))
 
--- Demand 3 for the host: on verdict 0 the audit of what it wrote is verdict 0.
-pub verdict-accepted : (programs schedule : List ℕ) (m n : ℕ) → resultOf (recordOf programs schedule m n) .verdict ≡ 0 →
-    Accepted programs (writtenOf (recordOf programs schedule m n) .trace) (writtenOf (recordOf programs schedule m n) .report)
-verdict-accepted programs schedule m n e = by (recordOf programs schedule m n) refl (record-numbered programs schedule m n) e
-  where
-    by : (x : Result Texts) → recordOf programs schedule m n ≡ x → Numbered x → resultOf x .verdict ≡ 0 →
-        Accepted programs (writtenOf x .trace) (writtenOf x .report)
-    by (fault number line) d h z = absurd (omega (arith, h, z))
-    by (made t) d h z = record-accepted programs schedule m n t d
+-- ── what was written ──
+texts-audited : (programs u v : List ℕ) (t : Texts) (b : Batch) → u ≡ t .trace → v ≡ t .report → textsOf b ≡ t →
+    auditOf programs (textsOf b .trace) (textsOf b .report) ≡ accepted b → auditOf programs u v ≡ accepted b
+texts-audited programs u v t b p q d e = rw (p, q, ← d) e
+
+-- Demand 3 for the host: on verdict 0 the audit of what it wrote is verdict 0, with its counts.
+module _ (programs schedule trace report traceAfter reportAfter : List ℕ) (r : Recorded) where
+  abbrev made-of : Result Texts
+  made-of = recordOf programs schedule (length trace) (length report)
+
+  texts-accepted : (t : Texts) → made-of ≡ made t → RecordIs (made t) trace report traceAfter reportAfter r →
+      Accepted programs schedule traceAfter reportAfter r
+  unfolding recordOf
+  texts-accepted t e i =
+      let b = through (batchOf programs schedule) (λ b. fitted (length trace) (length report) (textsOf b)) t e in
+      let d : textsOf (b .from) ≡ t = fitted-made (length trace) (length report) (textsOf (b .from)) t (b .behind) in
+      record {
+        batch = b .from;
+        run = b .before;
+        audited = texts-audited programs _ _ t (b .from) (trace-front i) (report-front i) d (batch-accepted programs schedule (b .from) (b .before));
+      }
+
+  pub record-accepted : RecordIs made-of trace report traceAfter reportAfter r → r .verdict ≡ 0 →
+      Accepted programs schedule traceAfter reportAfter r
+  record-accepted i z = by made-of refl (record-numbered programs schedule (length trace) (length report)) i
+    where
+      by : (x : Result Texts) → made-of ≡ x → Numbered x → RecordIs x trace report traceAfter reportAfter r →
+          Accepted programs schedule traceAfter reportAfter r
+      by (fault number line) e h i = absurd (omega (arith, h, ap (λ r. r .verdict) (i .result), z))
+      by (made t) e h i = texts-accepted t e i

@@ -1,10 +1,21 @@
--- The worked schedules, computed (Stars); what was read is in range (Readings); what is written is accepted (Acceptance);
+-- The worked schedules, computed (Stars); what was read is in range (Readings); what is written stands in front of
+-- the buffers (Fronts), and is accepted (Acceptance);
 -- and the laws that functions rest on: of row 16 (Fitting), of a turn (Going), of the log by object (Picking, Sorting).
 mod Stars
 pub mod Readings
-pub mod Bounds
+pub mod Fronts
 pub mod Acceptance
 pub mod Fitting
 pub mod Going
 pub mod Picking
 pub mod Sorting
+pub mod States
+pub mod Promises
+pub mod Slots
+pub mod LogLines
+pub mod EventRows
+pub mod Running
+pub mod Arriving
+pub mod Turning
+pub mod Finishing
+pub mod Recording

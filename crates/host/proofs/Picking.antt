@@ -10,18 +10,11 @@ use borrow.Author.Tests.{eq-eqb, ne-eqb, eqb-true, eqb-false}
 use Rattle.text.specs.Held.{entryAt}
 use Rattle.text.specs.Report.{entryFrom, entryNumbers}
 use Rattle.text.specs.Rows.{withRow, firsts}
-use Rattle.text.specs.declared.report.Entry.{Entry}
 use Rattle.text.proofs.RowLaws.{row-room, rows-put}
 use Rattle.ordering.proofs.Basics.{byBool}
 use Rattle.model.specs.Batch.{logOf}
+use Rattle.model.proofs.Report.{log-append}
 use Rattle.host.specs.Steps.{linesOf, RoomFor, Picked}
-
-log-append : (o : ℕ) (xs ys : List Entry) → logOf o (xs ++ ys) ≡ logOf o xs ++ logOf o ys
-log-append o [] ys = refl
-log-append o (x ∷ xs) ys =
-    byBool (eqb (x .op .object) o)
-    (λ e. rw e (ap (λ ls. x ∷ ls) (log-append o xs ys)))
-    (λ e. rw e (log-append o xs ys))
 
 -- line i more
 module _ (logs : List ℕ) (object i : ℕ) where

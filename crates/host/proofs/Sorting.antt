@@ -24,7 +24,7 @@ logs-next f k (suc m) =
     ∙ sym (append-assoc (f k) (logsFrom f (suc k) m) (f (k + suc m)))
 
 -- how many lines m objects from object k on have
-abbrev linesIn : List Entry → (k m : ℕ) → ℕ
+abbrev pub linesIn : List Entry → (k m : ℕ) → ℕ
 linesIn ls k m = length (logsFrom (λ o. logOf o ls) k m)
 
 nothing-in : (k m : ℕ) → linesIn [] k m ≡ 0
@@ -49,7 +49,7 @@ module _ (l : Entry) (ls : List Entry) where
       (λ e t. rw t (omega (arith, a, b, not-in (suc k) m (omega arith))))
       (λ e t. rw t (omega (arith, a, b, once-in (suc k) m)))
 
-lines-few : (ls : List Entry) (k m : ℕ) → linesIn ls k m ≤ length ls
+pub lines-few : (ls : List Entry) (k m : ℕ) → linesIn ls k m ≤ length ls
 lines-few [] k m = omega (arith, nothing-in k m)
 lines-few (l ∷ ls) k m = omega (arith, once-in l ls k m, lines-few ls k m)
 

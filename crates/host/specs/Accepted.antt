@@ -1,28 +1,20 @@
--- Demand 3 for the host, on texts: what has to hold of the texts that it wrote.
+-- Demand 3 for the host, on texts: what has to hold of the two buffers and the result where the verdict is 0.
 use Prim.Native.Nat.{ℕ}
 use mathlib.Core.List.{List}
 use mathlib.Core.Path.{_≡_}
-use Rattle.text.specs.Programs.{readPrograms}
-use Rattle.text.specs.Report.{readReport}
-use Rattle.text.specs.Text.{readable}
-use Rattle.text.specs.Trace.{readTrace}
-use Rattle.text.specs.declared.programs.Program.{Program}
-use Rattle.model.specs.Audit.{audit}
+use lib.ListN.{length, take}
+use Rattle.text.specs.Text.{count}
+use Rattle.text.specs.Trace.{isRequest}
 use Rattle.model.specs.Batch.{Batch}
-use Rattle.model.specs.Checks.{verdict}
-use Rattle.machine.specs.Instance.{machine}
-use Rattle.machine.specs.Objects.{atStart}
-use Rattle.machine.specs.Processes.{limit}
-use Rattle.machine.specs.Rules.{rulingOf}
-use Rattle.machine.specs.declared.rules.Ruling.the-variants.{Kept}
-use Rattle.host.specs.Recorded.{known}
+use Rattle.model.specs.Host.{made}
+use Rattle.verifier.specs.Faults.{auditOf}
+use Rattle.host.specs.Recorded.{batchOf}
+use Rattle.host.specs.declared.Recorded.{Recorded}
 
--- the three texts are readable, no program rule is broken, and the audit of what they hold gives verdict 0
-pub record Accepted (programs trace report : List ℕ) : Type 0 where
-  pub table : List Program
-  pub tableRead : readPrograms programs ≡ readable table
-  pub rules : rulingOf table ≡ Kept
+-- the run made a batch, and the audit of these programs with the fronts that were written is verdict 0, with the counts of that batch
+pub record Accepted (programs schedule traceAfter reportAfter : List ℕ) (r : Recorded) : Type 0 where
   pub batch : Batch
-  pub traceRead : readTrace trace ≡ readable (batch .trace)
-  pub reportRead : readReport report ≡ readable (record { ofs = batch .ofs; log = batch .log })
-  pub audited : audit (machine limit table) atStart (known table) batch ≡ verdict 0 0
+  pub run : batchOf programs schedule ≡ made batch
+  pub audited :
+      auditOf programs (take (r .«trace_len») traceAfter) (take (r .«report_len») reportAfter)
+      ≡ record { verdict = 0; line = 0; requests = count isRequest (batch .trace); operations = length (batch .log) }

@@ -3,3 +3,6 @@ pub mod Recorded
 pub mod Accepted
 -- What private functions promise
 pub mod Steps
+pub mod Requests
+pub mod Moves
+pub mod Runs

@@ -1,9 +1,9 @@
 -- The reference host on texts: its checks in the order of the scope (1, 2, 13, then 14 line by line, 15, 16), what it writes, and its result.
 use Prim.Native.Nat.{ℕ}
-use mathlib.Core.Bool.{Bool, cond, _&&_}
+use mathlib.Core.Bool.{cond, _&&_}
 use mathlib.Core.List.{List, []}
 use mathlib.Core.Path.{_≡_}
-use lib.Dec.{leb, ltb}
+use lib.Dec.{leb}
 use lib.ListN.{length}
 use Rattle.lines.specs.Put.{front}
 use Rattle.text.specs.Formats.{mostEntries}
@@ -16,7 +16,7 @@ use Rattle.text.specs.declared.programs.Program.{Program}
 use Rattle.text.specs.declared.schedule.Move.{Move}
 use Rattle.model.specs.Batch.{Batch}
 use Rattle.model.specs.Host.{Result, fault, made, recorded}
-use Rattle.machine.specs.Instance.{machine}
+use Rattle.machine.specs.Instance.{known, machine}
 use Rattle.machine.specs.Objects.{atStart}
 use Rattle.machine.specs.Processes.{limit}
 use Rattle.machine.specs.Rules.{rulingOf}
@@ -41,10 +41,6 @@ ruled table (Broken line) = fault 2 line
 
 abbrev pub tableOf : List ℕ → Result (List Program)
 tableOf programs = andThen (readAs 1 (readPrograms programs)) (λ table. ruled table (rulingOf table))
-
--- the numbers of the programs that there are
-abbrev pub known : List Program → ℕ → Bool
-known table prog = ltb prog (length table)
 
 -- how many objects there are
 abbrev pub objects : ℕ

@@ -9,7 +9,7 @@ ghost use Rattle.text.specs.Rows.{withRow};
 ghost use Rattle.host.specs.Steps.{RoomFor, Picked, Sorted};
 
 // Row i of logs.
-fn put_line(logs: &mut [u64; 6144], i: usize, l: Entry)
+pub(crate) fn put_line(logs: &mut [u64; 6144], i: usize, l: Entry)
     requires { ⌜ i < 1024 ⌝ }
     ensures { λ _. ⌜ now (logs .exit) ≡ withRow 6 (now (logs .entry)) i (entryNumbers l) ⌝ }
 {
@@ -43,7 +43,7 @@ fn put_object(logs: &[u64; 6144], n: usize, object: u64, out: &mut [u64; 6144], 
 }
 
 // The first n lines by rising object, within one in order of execution; how many there are.
-fn by_object(logs: &[u64; 6144], n: usize, out: &mut [u64; 6144]) -> usize
+pub(crate) fn by_object(logs: &[u64; 6144], n: usize, out: &mut [u64; 6144]) -> usize
     requires { ⌜ (n ≤ 1024) × (length (now out) ≡ 6144) ⌝ }
     ensures { λ r. ⌜ Sorted (now (logs .entry)) n 16 (now (out .exit)) r ⌝ }
 {

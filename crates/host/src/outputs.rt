@@ -12,19 +12,19 @@ ghost use Rattle.host.specs.Recorded.{fitted, resultOf, RecordIs};
 ghost use Rattle.host.specs.Steps.{heldTexts};
 
 // A refusal: nothing was written.
-fn refused(verdict: u64, line: u64) -> Recorded
+pub(crate) fn refused(verdict: u64, line: usize) -> Recorded
     ensures { λ r. ⌜ r ≡ resultOf (fault verdict line) ⌝ }
 {
     Recorded {
         verdict,
-        line,
+        line: line as u64,
         trace_len: 0,
         report_len: 0,
     }
 }
 
 // The texts of n events, m `of` lines and k `log` lines into the two buffers, or a refusal where one is too short.
-fn write_texts(
+pub(crate) fn write_texts(
     events: &[u64; 640],
     n: usize,
     ofs: &[u64; 192],

@@ -10,7 +10,7 @@ ghost use Rattle.machine.specs.Processes.{limit};
 ghost use Rattle.host.specs.Steps.{WentOn};
 
 // The request goes on. The host keeps no path, so this is the machine's `advance` without one.
-fn go_on(p: Program, l: &mut [u64; 8], at: u64, done: usize) -> Stop
+pub(crate) fn go_on(p: Program, l: &mut [u64; 8], at: u64, done: usize) -> Stop
     ensures { λ r. ⌜ WentOn (p .code) (now (l .entry)) at done (now (l .exit)) r ⌝ }
 {
     let mut at = at;

@@ -7,7 +7,7 @@ use mathlib.Core.Path.{_≡_, refl, sym, _∙_, ap}
 use native.Mathlib.Omega.{arith}
 use native.Mathlib.Numerals.{add-one}
 use lib.ListN.{length, getD, take, drop, set, length-set}
-use lib.Seq.{drop-cons, drop-drop, getD-drop, take-suc-set}
+use lib.Seq.{drop-cons, drop-drop, getD-drop, take-suc-set, take-all}
 use borrow.Author.Tests.{le-leb, lt-leb}
 use Rattle.lines.specs.Number.{numberOf}
 use Rattle.lines.specs.Parts.{parts}
@@ -87,6 +87,9 @@ cells-from : (n i : ℕ) (v : List ℕ) → i + n ≤ length v → cellsFrom n i
 cells-from zero i v h = refl
 cells-from (suc n) i v h =
     ap (λ l. getD v i 0 ∷ l) (cells-from n (suc i) v (omega arith)) ∙ ap (take (suc n)) (sym (drop-cons v i 0 (omega arith)))
+
+pub cells-all : (n : ℕ) (v : List ℕ) → length v ≡ n → cells n v ≡ v
+cells-all n v h = cells-from n 0 v (omega (arith, h)) ∙ take-all n v (omega (arith, h))
 
 -- ── the fields read so far in front of the others ──
 

@@ -51,3 +51,8 @@ line-text w vs = refl
 
 pub line-length : (w vs : List ℕ) → length (lineText w vs) ≡ length w + length (numbersText vs)
 line-length w vs = ap length (line-text w vs) ∙ length-append w (numbersText vs)
+
+-- a number on a line of its own
+pub number-length : (v : ℕ) → length (numbersText (v ∷ [])) ≡ length (decimal v) + 1
+unfolding numbersText
+number-length v = length-append (decimal v) _

@@ -4,8 +4,8 @@ use mathlib.Core.List.{List, [], _∷_, _++_, append-assoc}
 use mathlib.Core.Path.{_≡_, refl, sym, _∙_, ap}
 use native.Mathlib.Omega.{arith}
 use native.Mathlib.Numerals.{add-one}
-use lib.ListN.{length, set, length-append}
-use lib.Seq.{drop-cons, set-at}
+use lib.ListN.{length, take, drop, set, length-append}
+use lib.Seq.{drop-cons, set-at, take-append-seam}
 use borrow.Author.Tests.{lt-ltb, le-ltb}
 use Rattle.lines.specs.Put.{writtenOf, front, putOf, leftOf, PutIs}
 use Rattle.lines.specs.declared.writer.Put.{Put}
@@ -26,6 +26,11 @@ put-done t o p r h i =
     let e : putOf t o ≡ Wrote (length t) = simp (le-ltb _ _ h, putOf) in
     let f : leftOf t o ≡ front t o = simp (le-ltb _ _ h, leftOf) in
     (ap writtenOf (i .answer ∙ e), i .bytes ∙ f)
+
+-- the text is what stands in front
+pub front-taken : (t o : List ℕ) → take (length t) (front t o) ≡ t
+unfolding front
+front-taken t o = take-append-seam t (drop (length t) o)
 
 -- one byte more
 pub front-one : (b : ℕ) (o : List ℕ) → 0 < length o → set o 0 b ≡ front (b ∷ []) o

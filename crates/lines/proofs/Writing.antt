@@ -7,8 +7,10 @@ use native.Mathlib.Nat.{zero-add}
 use native.Mathlib.Numerals.{add-one}
 use lib.ListN.{length, getD, take, drop, set, length-append, length-drop, drop-of-length-le}
 use lib.Seq.{drop-drop, drop-at, take-at, take-add, drop-cons, take-length, length-take-le, take-append-seam, drop-append-seam, set-split}
-use Rattle.lines.specs.Put.{front}
+use Rattle.lines.specs.Put.{writtenOf, front, PutIs}
+use Rattle.lines.specs.declared.writer.Put.{Put}
 use Rattle.lines.proofs.Parts.{rest-all}
+use Rattle.lines.proofs.Puts.{put-done}
 
 -- one element more
 pub drop-next : (l : List ℕ) (i : ℕ) → i < length l → drop i l ≡ getD l i 0 ∷ drop (i + 1) l
@@ -58,10 +60,13 @@ writing-piece {t} {o} {out} {at} p u w =
       now = rw (a, d, drop-drop (length p) at o, take-add at (length p) t, k) (sym (append-assoc (take at t) p _));
     }
 
--- the same as the borrow checker has it: ys is what `&mut out[at..]` held last
+-- a buffer whose part `&mut out[at..]` was lent and held ys last, as the borrow checker has it
+abbrev pub lent : (out : List ℕ) (at : ℕ) (ys : List ℕ) → List ℕ
+lent out at ys = take at out ++ (ys ++ drop (length out - at) (drop at out))
+
 pub writing-part : {t o out : List ℕ} {at : ℕ} (p u ys : List ℕ) (n : ℕ) → Writing t o out at (p ++ u) →
     ys ≡ front p (take (length out - at) (drop at out)) → n ≡ length p
-    → Writing t o (take at out ++ (ys ++ drop (length out - at) (drop at out))) (at + n) u
+    → Writing t o (lent out at ys) (at + n) u
 writing-part {t} {o} {out} {at} p u ys n w f e =
     let k : drop (length out - at) (drop at out) ≡ [] =
     drop-of-length-le (drop at out) {i = length out - at} (omega (arith, length-drop at out)) in
@@ -77,3 +82,19 @@ writing-byte {t} {o} {out} {at} b u w =
 -- the first piece, written to `out` as a whole
 pub writing-first : {t o : List ℕ} (p u ys : List ℕ) (n : ℕ) → Writing t o o 0 (p ++ u) → ys ≡ front p o → n ≡ length p → Writing t o ys n u
 writing-first {t} {o} p u ys n w f e = rw (f, e, ← zero-add (length p)) (writing-piece p u w)
+
+-- ── pieces that writers put, which answer r ──
+module _ {t o : List ℕ} (p u ys : List ℕ) (r : Put) (n : ℕ) where
+  -- the first piece
+  pub writing-put-first : Writing t o o 0 (p ++ u) → PutIs p o ys r → n ≡ writtenOf r → Writing t o ys n u
+  writing-put-first w d e =
+      let k = put-done p o ys r (omega (arith, length-append p u, writing-room w)) d in
+      writing-first p u ys n w (k .1) (e ∙ k .0)
+
+  -- a writer was lent `&mut out[at..]`, which it left as ys
+  pub writing-put : {out : List ℕ} {at : ℕ} → Writing t o out at (p ++ u) → PutIs p (take (length out - at) (drop at out)) ys r →
+      n ≡ writtenOf r → Writing t o (lent out at ys) (at + n) u
+  writing-put {out} {at} w d e =
+      let k = put-done p (take (length out - at) (drop at out)) ys r
+      (rw (rest-all at out, length-drop at out) (omega (arith, length-append p u, writing-room w))) d in
+      writing-part p u ys n w (k .1) (e ∙ k .0)

@@ -1,5 +1,6 @@
 // Numbers and lines written to the front of a lent buffer.
 ghost use mathlib.Core.Path.{_≡_};
+ghost use mathlib.Core.List.{[], _∷_};
 ghost use Prim.Native.Nat.{_≤_};
 ghost use lib.ListN.{length, take};
 ghost use Rattle.lines.specs.Decimal.{decimal};
@@ -101,6 +102,16 @@ fn fill_word(out: &mut [u8], w: &[u8]) -> usize
     i
 }
 
+// Copies w to the front of out, or nothing where out is too short.
+pub fn put_bytes(out: &mut [u8], w: &[u8]) -> Put
+    ensures { λ r. ⌜ PutIs (now (w .entry)) (now (out .entry)) (now (out .exit)) r ⌝ }
+{
+    if out.len() < w.len() {
+        return Put::Short;
+    }
+    Put::Wrote(fill_word(out, w))
+}
+
 // Writes the numbers of f, parted by commas and ended by a line feed.
 fn fill_numbers(out: &mut [u8], f: Fields) -> usize
     requires { ⌜ f .n ≤ 6 ⌝ }
@@ -171,4 +182,26 @@ pub fn put_line(out: &mut [u8], w: &[u8], f: Fields) -> Put
         return Put::Short;
     }
     Put::Wrote(fill_line(out, w, g))
+}
+
+// How long a number is on a line of its own, its line feed included.
+pub fn number_width(v: u64) -> usize
+    ensures { λ r. ⌜ r ≡ length (numbersText (v ∷ [])) ⌝ }
+    ensures { λ r. ⌜ r ≤ 21 ⌝ }
+{
+    width(v) + 1
+}
+
+// Writes a line of one number to the front of out, or nothing where out is too short.
+pub fn put_number_line(out: &mut [u8], w: &[u8], v: u64) -> Put
+    ensures { λ r. ⌜ PutIs (lineText (now (w .entry)) (v ∷ [])) (now (out .entry)) (now (out .exit)) r ⌝ }
+{
+    put_line(
+        out,
+        w,
+        Fields {
+            n: 1,
+            v: [v, 0, 0, 0, 0, 0],
+        },
+    )
 }

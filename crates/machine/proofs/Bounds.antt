@@ -10,6 +10,7 @@ use lib.ListN.{getD, set, replicate}
 use Rattle.text.specs.declared.programs.Instr.{Instr}
 use Rattle.text.specs.declared.programs.Program.{Program}
 use Rattle.text.specs.declared.report.Op.{Op}
+use Rattle.ordering.proofs.Basics.{clash}
 use Rattle.model.specs.Machine.{op, stop}
 use Rattle.model.specs.Bounds.{Within, Bounded}
 use Rattle.machine.specs.declared.objects.Cell.the-variants.{Put}
@@ -23,15 +24,11 @@ use Rattle.machine.specs.Processes.{Advanced, behind, follow, go, instrA
 use Rattle.machine.specs.Objects.{Content, register, store, reads, apply, changes, written, valueOf}
 use Rattle.machine.specs.Instance.{Process, machine, nextOf, intoOf, codeAt, gone}
 
--- anything from equal constructors that differ
-clash : {P : Type 0} → _≡_ {A = ℕ} 0 1 → P
-clash e = absurd (omega arith)
-
 -- numbers of 64 bits
 abbrev pub Word : ℕ → Type 0
 Word n = n < 2 ^ 64
 
-abbrev Words : List ℕ → Type 0
+abbrev pub Words : List ℕ → Type 0
 Words l = (i : ℕ) → Word (getD l i 0)
 
 words-cons : (x : ℕ) (l : List ℕ) → Word x → Words l → Words (x ∷ l)
@@ -133,7 +130,7 @@ within limit table p o e =
     subst (FitNext (λ l. Unit {0}) (λ o. o .object < 16) (λ v. Unit {0})) (d .1) (g .next-fit)
 
 -- fields stay below 2^64
-abbrev FitOp : Op → Type 0
+abbrev pub FitOp : Op → Type 0
 FitOp o = (o .object < 16) × (6 ≤ o .kind) × (o .kind ≤ 9) × Word (o .key) × Word (o .value)
 
 module _ (l : List ℕ) (i : Instr) (n : ℕ) (h : Words l) (w : Word (i .b)) where
@@ -157,7 +154,7 @@ replies (Operation u into) s v f e = clash (cc)
 replies (Reply u) s v f e = let i : 0 ≡ s = cc in let j : u ≡ v = cc in (omega arith, subst Word j f)
 replies Cut s v f e = let i : 1 ≡ s = cc in let j : 0 ≡ v = cc in (omega arith, omega arith)
 
-abbrev FitContent : Content → Type 0
+abbrev pub FitContent : Content → Type 0
 FitContent c = (key : ℕ) → Word (reads c key)
 
 module _ (o : Op) (w : Word (o .value)) where
@@ -191,7 +188,7 @@ module _ (limit : ℕ) (table : List Program) (words : (prog at : ℕ) → Word 
       (λ l at n k. fits l (instrAt (codeAt table (p .prog)) at) n k (words (p .prog) at) _ refl) (p .locals) (p .at) (p .done) h in
       record { locals-fit = g .locals-fit; next-fit = g .next-fit; counted = g .counted }
 
-  operates : (n : ℕ) (p : Process) (o : Op) (c : Content) → (limit - p .done ≤ n) × Words (p .locals) → machine limit table .advance p ≡ op o
+  pub operates : (n : ℕ) (p : Process) (o : Op) (c : Content) → (limit - p .done ≤ n) × Words (p .locals) → machine limit table .advance p ≡ op o
       → FitContent c → FitOp o × FitContent (apply o c .1)
       × ((m : ℕ) × (suc m ≤ n)
       × ((limit - machine limit table .resume p (apply o c .0) .done ≤ m) × Words (machine limit table .resume p (apply o c .0) .locals)))
@@ -214,19 +211,26 @@ module _ (limit : ℕ) (table : List Program) (words : (prog at : ℕ) → Word 
         ),
       )
 
-  pub bounded : Bounded (machine limit table)
+  pub starts : (prog a b : ℕ) → Word prog × (Word a × Word b) →
+      (limit - machine limit table .start prog a b .done ≤ limit) × Words (machine limit table .start prog a b .locals)
+  starts prog a b h =
+      (omega arith, words-cons a (b ∷ replicate 6 0) (h .1 .0) (words-cons b (replicate 6 0) (h .1 .1) (words-zero 6)))
+
+  pub stops : (n : ℕ) (p : Process) (status value : ℕ) → (limit - p .done ≤ n) × Words (p .locals) →
+      machine limit table .advance p ≡ stop status value → (status ≤ 1) × Word value
+  stops n p status value f e = replies (gone limit table p .stop .next) status value (went p (f .1) .next-fit) e
+
+  -- the inputs and the program number are numbers of 64 bits too
+  abbrev pub bounded : Bounded (machine limit table)
   bounded =
       record {
         Fit = λ n p. (limit - p .done ≤ n) × Words (p .locals);
         FitContent = FitContent;
-        FitInput = λ prog a b. Word a × Word b;
+        FitInput = λ prog a b. Word prog × (Word a × Word b);
         FitOp = FitOp;
         FitReply = λ status value. (status ≤ 1) × Word value;
         most = limit;
-        starts = λ prog a b h. (
-          omega arith,
-          words-cons a (b ∷ replicate 6 0) (h .0) (words-cons b (replicate 6 0) (h .1) (words-zero 6)),
-        );
+        starts = starts;
         operates = operates;
-        stops = λ n p status value f e. replies (gone limit table p .stop .next) status value (went p (f .1) .next-fit) e;
+        stops = stops;
       }

@@ -203,6 +203,40 @@ module _ (lines : ℕ → Entry) (n : ℕ) (rs hs bs rs′ hs′ bs′ : List �
   pub passed : n < 1024 → Registers (ops lines) n rs → Indexed (ops lines) n hs bs → Passed lines n (performed rs′ (stored v hs′ bs′))
   passed r g i = subst (Passed lines n) (sym e) (performs lines n rs hs bs r g i)
 
+-- ── the arrays speak only of the lines above n ──
+module _ (f g : ℕ → Op) where
+  nearest-same : (n : ℕ) → ((i : ℕ) → i < n → f i ≡ g i) → (object key : ℕ) → nearest f object key n ≡ nearest g object key n
+  unfolding nearest
+  nearest-same zero h object key = refl
+  nearest-same (suc n) h object key =
+      let e = h n (omega arith) in
+      let d = nearest-same n (λ (i : ℕ). λ (k : i < n). h i (omega (arith, k))) object key in
+      λ i. cond (writes object key (e i)) (Put (e i .value)) (d i)
+
+  lastPut-same : (n : ℕ) → ((i : ℕ) → i < n → f i ≡ g i) → (b : ℕ) → lastPut f b n ≡ lastPut g b n
+  unfolding lastPut
+  lastPut-same zero h b = refl
+  lastPut-same (suc n) h b =
+      let e = h n (omega arith) in
+      let d = lastPut-same n (λ (i : ℕ). λ (k : i < n). h i (omega (arith, k))) b in
+      λ i. cond (putsIn b (e i)) (suc n) (d i)
+
+  module _ (n : ℕ) (h : (i : ℕ) → i < n → f i ≡ g i) where
+    pub registers-same : (registers : List ℕ) → Registers f n registers → Registers g n registers
+    registers-same registers r =
+        record { size = r .size; value = λ o k. r .value o k ∙ ap valueOf (nearest-same n h o 0) }
+
+    pub index-same : (heads befores : List ℕ) → Indexed f n heads befores → Indexed g n heads befores
+    index-same heads befores r =
+        record {
+          heads-length = r .heads-length;
+          befores-length = r .befores-length;
+          head = λ b k. r .head b k ∙ lastPut-same n h b;
+          link = λ b j k p.
+              r .link b j k (ap (putsIn b) (h j k) ∙ p)
+              ∙ lastPut-same j (λ (i : ℕ). λ (l : i < j). h i (omega (arith, l, k))) b;
+        }
+
 -- before the first line
 pub registers-start : (line : ℕ → Op) → Registers line 0 (replicate 8 0)
 unfolding nearest

@@ -1,8 +1,10 @@
 -- The machine of the scope as the model's record, for a table of programs and a limit of instructions.
 use Prim.Native.Nat.{ℕ}
+use mathlib.Core.Bool.{Bool}
 use mathlib.Core.Path.{refl}
 use mathlib.Core.List.{List, [], _∷_, _++_}
-use lib.ListN.{getD}
+use lib.Dec.{ltb}
+use lib.ListN.{getD, length}
 use Rattle.text.specs.declared.programs.Instr.{Instr}
 use Rattle.text.specs.declared.programs.Program.{Program}
 use Rattle.text.specs.Held.{noProgram}
@@ -41,6 +43,10 @@ behindAll path r = advanced (r .locals) (r .stop) (path ++ r .path)
 -- the instructions of a program of the table
 abbrev pub codeAt : List Program → ℕ → List Instr
 codeAt table prog = getD table prog noProgram .code
+
+-- the numbers of the programs that there are
+abbrev pub known : List Program → ℕ → Bool
+known table prog = ltb prog (length table)
 
 -- a process of a program that has gone on to an operation, with the answer v
 abbrev pub resumedWith : (prog v : ℕ) → Advanced → Process

@@ -69,7 +69,7 @@ add-request past (Response q s v ∷ es) r prog a b o n m =
     (o .0, o .1, add-request (Response q s v ∷ past) es r prog a b (o .2) n m)
 
 -- the response of an open request
-add-response : (past es : List Event) (r s v : ℕ) → InOrder past es → (requested r past || requested r es) ≡ true →
+pub add-response : (past es : List Event) (r s v : ℕ) → InOrder past es → (requested r past || requested r es) ≡ true →
     answered r past ≡ false → answered r es ≡ false → InOrder past (es ++ (Response r s v ∷ []))
 add-response past [] r s v o a n m = (sym (or-false (requested r past)) ∙ a, n, tt)
 add-response past (Request q p x y ∷ es) r s v o a n m =

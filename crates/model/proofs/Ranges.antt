@@ -87,10 +87,10 @@ responses-open past (Response r s v ∷ es) o = omega (
   one-less (λ q. answered q past) r past (o .1) (o .0),
 )
 
-responses-few : (es : List Event) → InOrder [] es → responsesIn es ≤ requestsIn es
+pub responses-few : (es : List Event) → InOrder [] es → responsesIn es ≤ requestsIn es
 responses-few es o = omega (arith, responses-open [] es o)
 
-requests-append : (es fs : List Event) → requestsIn (es ++ fs) ≡ requestsIn es + requestsIn fs
+pub requests-append : (es fs : List Event) → requestsIn (es ++ fs) ≡ requestsIn es + requestsIn fs
 requests-append [] fs = omega arith
 requests-append (Request r prog a b ∷ es) fs = omega (arith, requests-append es fs)
 requests-append (Response r s v ∷ es) fs = requests-append es fs

@@ -21,7 +21,7 @@ use Rattle.model.specs.PlainRun.{State, operationsOf}
 use Rattle.model.proofs.Trace.{Matching}
 
 -- ── logs ──
-log-append : (o : ℕ) (xs ys : List Entry) → logOf o (xs ++ ys) ≡ logOf o xs ++ logOf o ys
+pub log-append : (o : ℕ) (xs ys : List Entry) → logOf o (xs ++ ys) ≡ logOf o xs ++ logOf o ys
 log-append o [] ys = refl
 log-append o (l ∷ xs) ys = byBool (eqb (l .op .object) o)
     (λ e. rw e (ap (λ t. l ∷ t) (log-append o xs ys)))

@@ -38,7 +38,8 @@ module _ (f g : Format) (s : List ℕ) (at m n : ℕ) (v : List ℕ) where
 
 -- ── what it tells of the line at the place ──
 
-clash : {P : Type 0} → _≡_ {A = ℕ} 0 1 → P
+-- anything from equal constructors that differ
+pub clash : {P : Type 0} → _≡_ {A = ℕ} 0 1 → P
 clash z = absurd (omega arith)
 
 -- a line that was found, or not

@@ -6,4 +6,5 @@ pub mod ReportReading
 pub mod ScheduleReading
 pub mod ProgramsReading
 pub mod RoundTrip
+pub mod Ranges
 pub mod Cases

@@ -1,12 +1,15 @@
 -- Laws of records in an array of numbers.
 use Prim.Native.Nat.{ℕ, zero, suc, _+_, _*_, _%_, _<_, _≤_}
+use mathlib.Core.Bool.{Bool, true, false}
 use mathlib.Core.List.{List, [], _∷_, _++_, append-assoc}
 use mathlib.Core.Path.{_≡_, refl, sym, _∙_, ap}
 use native.Mathlib.Omega.{arith}
 use native.Mathlib.Numerals.{add-one}
 use native.Mathlib.Nat.{mod-eq-of-lt, mul-le-mul-right, suc-mul}
+use borrow.Author.Tests.{ltb-true, ltb-false}
+use lib.Dec.{ltb}
 use lib.ListN.{length, getD, take, drop, set, length-append, length-drop, take-append-drop}
-use lib.Seq.{sets, sets-eq, length-sets, take-at, drop-at, length-take-le, take-append-le, drop-append-le, getD-take, getD-drop}
+use lib.Seq.{sets, sets-eq, length-sets, take-at, drop-at, length-take-le, take-append-le, drop-append-le, drop-set-lt, getD-take, getD-drop}
 use Rattle.text.specs.Rows.{row, withRow, firsts}
 
 -- number j of row i stands at i times w plus j
@@ -41,6 +44,19 @@ sets-six a k u v w x y z =
     let p : k + 5 ≡ suc (suc (suc (suc (suc k)))) = omega arith in
     rw (sets-five a k u v w x y, p) refl
 
+pub sets-twelve : (a : List ℕ) (k u₀ u₁ u₂ u₃ u₄ u₅ u₆ u₇ u₈ u₉ v w : ℕ) →
+    set (set (set (set (set (set (set (set (set (set (set (set a k u₀) (k + 1) u₁) (k + 2) u₂) (k + 3) u₃) (k + 4) u₄) (k + 5) u₅)
+    (k + 6) u₆) (k + 7) u₇) (k + 8) u₈) (k + 9) u₉) (k + 10) v) (k + 11) w
+    ≡ sets a k (u₀ ∷ u₁ ∷ u₂ ∷ u₃ ∷ u₄ ∷ u₅ ∷ u₆ ∷ u₇ ∷ u₈ ∷ u₉ ∷ v ∷ w ∷ [])
+sets-twelve a k u₀ u₁ u₂ u₃ u₄ u₅ u₆ u₇ u₈ u₉ v w =
+    let p : k + 6 ≡ suc (suc (suc (suc (suc (suc k))))) = omega arith in
+    let q : k + 7 ≡ suc (suc (suc (suc (suc (suc (suc k)))))) = omega arith in
+    let r : k + 8 ≡ suc (suc (suc (suc (suc (suc (suc (suc k))))))) = omega arith in
+    let s : k + 9 ≡ suc (suc (suc (suc (suc (suc (suc (suc (suc k)))))))) = omega arith in
+    let t : k + 10 ≡ suc (suc (suc (suc (suc (suc (suc (suc (suc (suc k))))))))) = omega arith in
+    let u : k + 11 ≡ suc (suc (suc (suc (suc (suc (suc (suc (suc (suc (suc k)))))))))) = omega arith in
+    rw (sets-six a k u₀ u₁ u₂ u₃ u₄ u₅, p, q, r, s, t, u) refl
+
 module _ {A : Type 0} where
   pub firsts-length : (f : ℕ → A) (n : ℕ) → length (firsts f n) ≡ n
   unfolding firsts
@@ -72,6 +88,11 @@ front-same w j k a b h g =
     ∙ sym (take-append-le w (drop j (take k a)) (drop k a) m) ∙ ap (take w) (sym e)
     ∙ ap (λ t. take w (drop j t)) (take-append-drop k a)
 
+-- and what lies behind it is not changed before it
+drop-sets : (m : ℕ) (vs a : List ℕ) (k : ℕ) → k + length vs ≤ m → drop m (sets a k vs) ≡ drop m a
+drop-sets m [] a k h = refl
+drop-sets m (v ∷ vs) a k h = drop-sets m vs (set a k v) (suc k) (omega arith) ∙ drop-set-lt m a k v (omega arith)
+
 -- the row vs is put at place n
 module _ (w : ℕ) (a : List ℕ) (n : ℕ) (vs : List ℕ) (l : length vs ≡ w) (room : n * w + w ≤ length a) where
   put-is : withRow w a n vs ≡ take (n * w) a ++ (vs ++ drop (n * w + length vs) a)
@@ -97,6 +118,20 @@ module _ (w : ℕ) (a : List ℕ) (n : ℕ) (vs : List ℕ) (l : length vs ≡ w
       let k = suc-mul i w in
       ap (λ t. take w (drop (i * w) t)) put-is
       ∙ front-same w (i * w) (n * w) a _ (omega (arith, m, k)) (omega (arith, room))
+
+  row-behind : (i : ℕ) → n < i → row w (withRow w a n vs) i ≡ row w a i
+  unfolding row withRow
+  row-behind i h =
+      let m : suc n * w ≤ i * w = mul-le-mul-right w (omega arith) in
+      let k = suc-mul n w in
+      ap (take w) (drop-sets (i * w) vs a (n * w) (omega (arith, m, k, l)))
+
+  pub row-other : (i : ℕ) → (i ≡ n → ⊥) → row w (withRow w a n vs) i ≡ row w a i
+  row-other i h = by (ltb i n) refl
+    where
+      by : (b : Bool) → ltb i n ≡ b → row w (withRow w a n vs) i ≡ row w a i
+      by true e = row-before i (ltb-true i n e)
+      by false e = row-behind i (let g = ltb-false i n e in omega (arith, g, h))
 
   -- read back as records, in a table of N places
   pub rows-put : {A : Type 0} (F : List ℕ → A) (N : ℕ) → n < N →

@@ -4,10 +4,11 @@ use mathlib.Core.List.{List, [], _∷_, _++_, append-nil}
 use mathlib.Core.Logic.{_↔_}
 use mathlib.Core.Option.{none}
 use mathlib.Core.Path.{_≡_, refl, sym, ap, _∙_}
+use lib.ListN.{length}
 use Rattle.text.specs.Programs.{readPrograms}
 use Rattle.text.specs.Report.{Report, readReport}
-use Rattle.text.specs.Text.{Read, readable, unreadable}
-use Rattle.text.specs.Trace.{readTrace}
+use Rattle.text.specs.Text.{Read, readable, unreadable, count}
+use Rattle.text.specs.Trace.{isRequest, readTrace}
 use Rattle.text.specs.declared.programs.Program.{Program}
 use Rattle.text.specs.declared.report.Of.{Of}
 use Rattle.text.specs.declared.trace.Event.{Event}
@@ -19,11 +20,11 @@ use Rattle.model.specs.Checks.{Check, verdict, firstFault}
 use Rattle.model.specs.Machine.{Machine}
 use Rattle.model.proofs.Main.{audit-exactly}
 use Rattle.model.proofs.Scans.{Clear, NotRow, clear-fault, fault-clear}
-use Rattle.machine.specs.Instance.{machine}
+use Rattle.machine.specs.Instance.{known, machine}
 use Rattle.machine.specs.Objects.{atStart}
 use Rattle.machine.specs.Processes.{limit}
 use Rattle.verifier.specs.Accepts.{Accepts}
-use Rattle.verifier.specs.Faults.{badLine, contents, row2, known, batchOf, checksOf, auditOf}
+use Rattle.verifier.specs.Faults.{badLine, contents, row2, batchOf, checksOf, audited, auditOf}
 
 -- a list of checks, none of row 0, has verdict 0 exactly where each is clear
 clear-zero : (cs : List Check) → All Clear cs → firstFault cs ≡ verdict 0 0
@@ -61,15 +62,23 @@ module _ (programs : Read (List Program)) (trace : Read (List Event)) (report : 
 -- what stands of the texts, where they are readable and the program rules kept
 texts-clear : (table : List Program) (events : List Event) (lines : Report) → row2 table ≡ none →
     audit (machine limit table) atStart (known table) (batchOf events lines) ≡ verdict 0 0 →
-    firstFault (checksOf (readable table) (readable events) (readable lines)) .number ≡ 0
+    firstFault (checksOf (readable table) (readable events) (readable lines)) ≡ verdict 0 0
 unfolding audit
 texts-clear table events lines g e =
     let b = batchOf events lines in
     let M = machine limit table in
     let c = zero-clear (traceChecks (known table) events ++ reportChecks M atStart b)
     (refl, (refl, (refl, (refl, (refl, (refl, replay-rows M atStart b 1 (b .ofs))))))) (ap (λ v. v .number) e) in
-    ap (λ v. v .number)
-    (clear-zero (checksOf (readable table) (readable events) (readable lines)) (refl, (g, (refl, (c .0, (c .1 .0, (refl, c .1 .1)))))))
+    clear-zero (checksOf (readable table) (readable events) (readable lines)) (refl, (g, (refl, (c .0, (c .1 .0, (refl, c .1 .1))))))
+
+-- the result of three texts that hold a batch which the model's audit accepts
+pub audit-of-accepted : (programs trace report : List ℕ) (table : List Program) (events : List Event) (lines : Report) →
+    readPrograms programs ≡ readable table → readTrace trace ≡ readable events → readReport report ≡ readable lines → row2 table ≡ none →
+    audit (machine limit table) atStart (known table) (batchOf events lines) ≡ verdict 0 0 →
+    auditOf programs trace report ≡ audited (verdict 0 0) (count isRequest events) (length (lines .log))
+unfolding auditOf
+audit-of-accepted programs trace report table events lines p t r g e =
+    rw (p, t, r) (ap (λ v. audited v (count isRequest events) (length (lines .log))) (texts-clear table events lines g e))
 
 pub audit-accepts : (programs trace report : List ℕ) → (auditOf programs trace report .verdict ≡ 0) ↔ Accepts programs trace report
 unfolding auditOf
@@ -91,7 +100,7 @@ audit-accepts programs trace report = (
       },
   λ a.
       let M = machine limit (a .table) in
-      rw (a .tableRead, a .eventsRead, a .linesRead)
-      (texts-clear (a .table) (a .events) (a .lines) (a .rules)
+      ap (λ r. r .verdict)
+      (audit-of-accepted programs trace report (a .table) (a .events) (a .lines) (a .tableRead) (a .eventsRead) (a .linesRead) (a .rules)
       (audit-exactly M atStart (known (a .table)) (batchOf (a .events) (a .lines)) .1 (a .demand))),
 )

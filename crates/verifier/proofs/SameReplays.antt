@@ -1,5 +1,5 @@
 -- Two program tables whose known programs have the same instructions give the same replays.
-use Prim.Native.Nat.{ℕ, zero, suc, _+_, _-_, _%_}
+use Prim.Native.Nat.{ℕ, zero, suc, _-_}
 use mathlib.Core.Bool.{Bool, true, false, cond}
 use mathlib.Core.List.{List, [], _∷_}
 use mathlib.Core.Option.{some}
@@ -7,7 +7,6 @@ use mathlib.Core.Path.{_≡_, refl, ap, _∙_}
 use lib.Dec.{eqb}
 use lib.ListN.{getD}
 use Rattle.text.specs.Held.{noProgram}
-use Rattle.text.specs.declared.programs.Instr.{Instr}
 use Rattle.text.specs.declared.programs.Program.{Program}
 use Rattle.text.specs.declared.report.Entry.{Entry}
 use Rattle.text.specs.declared.report.Of.{Of}
@@ -43,28 +42,9 @@ use Rattle.model.specs.Replay.{
 }
 use Rattle.model.proofs.Trace.{KnownIn}
 use Rattle.machine.specs.Instance.{Process, nextOf, behindAll, gone, resumedWith, machine}
-use Rattle.machine.specs.Instructions.{effectOf}
 use Rattle.machine.specs.Objects.{Content}
-use Rattle.machine.specs.Processes.{Advanced, instrAt, behind, follow, go}
-use Rattle.machine.specs.declared.instructions.Act.the-variants.{Goes, Asks, Replies}
-use Rattle.machine.specs.declared.instructions.Act.{Act}
-
--- ── a request goes on in the same way ──
-follow-same : (x : Act) (l : List ℕ) (n done : ℕ) (f g : List ℕ → ℕ → Advanced) → ((m : List ℕ) (to : ℕ) → f m to ≡ g m to) →
-    follow x l n done f ≡ follow x l n done g
-follow-same (Goes to) l n done f g h = h l to
-follow-same (Asks o into) l n done f g h = refl
-follow-same (Replies v) l n done f g h = refl
-
-go-same : (p q : List Instr) → ((at : ℕ) → instrAt p at ≡ instrAt q at) → (k : ℕ) (l : List ℕ) (at done : ℕ) →
-    go k p l at done ≡ go k q l at done
-unfolding go
-go-same p q h zero l at done = refl
-go-same p q h (suc k) l at done =
-    let e = effectOf l (instrAt q at) (at % 64 + 1) in
-    rw (h at)
-    (ap (behind (at % 64))
-    (follow-same (e .act) (e .locals) (at % 64 + 1) (done + 1) _ _ (λ m to. go-same p q h k m to (done + 1))))
+use Rattle.machine.specs.Processes.{instrAt}
+use Rattle.machine.proofs.Tables.{go-same}
 
 abbrev onAnswer : Answer → (ℕ → Outcome) → Outcome
 onAnswer c f = elim c [ wrong ↦ differs | right v ↦ f v ]

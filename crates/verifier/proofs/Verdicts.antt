@@ -30,16 +30,17 @@ use Rattle.model.specs.Audit.{row4, row4Open, row6, row7, row8, row9, replayChe
 use Rattle.model.specs.Batch.{Batch}
 use Rattle.model.specs.Checks.{Verdict, Check, check, verdict, firstFault}
 use Rattle.model.proofs.Trace.{Matching, row4-order, row6-matching}
-use Rattle.machine.specs.Instance.{machine}
+use Rattle.machine.specs.Instance.{known, machine}
 use Rattle.machine.specs.Objects.{atStart}
 use Rattle.machine.specs.Processes.{limit}
 use Rattle.machine.specs.Rules.{rulingOf}
 use Rattle.machine.specs.declared.rules.Ruling.the-variants.{Kept, Broken}
 use Rattle.machine.specs.declared.rules.Ruling.{Ruling}
+use Rattle.machine.proofs.Tables.{same-code}
 use Rattle.replay.specs.Judges.{batchIn, Ready, checks, Judges}
 use Rattle.replay.specs.declared.Fault.{Fault}
 use Rattle.verifier.specs.Accepts.{Accepts}
-use Rattle.verifier.specs.Faults.{badLine, contents, brokenLine, row2, known, batchOf, audited, auditedOf, auditOf}
+use Rattle.verifier.specs.Faults.{badLine, contents, brokenLine, row2, batchOf, audited, auditedOf, auditOf}
 use Rattle.verifier.specs.Steps.{
   refusal,
   tableIn,
@@ -54,7 +55,6 @@ use Rattle.verifier.specs.declared.Audited.{Audited}
 use Rattle.verifier.proofs.Acceptance.{audit-accepts}
 use Rattle.verifier.proofs.ReportRanges.{report-in-range}
 use Rattle.verifier.proofs.SameReplays.{replays-same}
-use Rattle.verifier.proofs.Tables.{same-code}
 
 -- ── one row ──
 -- a ruling r tells the line o of a row, and is k's

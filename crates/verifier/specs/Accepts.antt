@@ -10,10 +10,10 @@ use Rattle.text.specs.Trace.{readTrace}
 use Rattle.text.specs.declared.programs.Program.{Program}
 use Rattle.text.specs.declared.trace.Event.{Event}
 use Rattle.model.specs.Demand.{Demand3}
-use Rattle.machine.specs.Instance.{machine}
+use Rattle.machine.specs.Instance.{known, machine}
 use Rattle.machine.specs.Objects.{atStart}
 use Rattle.machine.specs.Processes.{limit}
-use Rattle.verifier.specs.Faults.{row2, known, batchOf}
+use Rattle.verifier.specs.Faults.{row2, batchOf}
 
 pub record Accepts (programs trace report : List ℕ) : Type 0 where
   -- the texts are readable

@@ -1,9 +1,9 @@
 -- The audit of three texts: the rows of the scope's table in their order, the first fault, and the result.
 use Prim.Native.Nat.{ℕ}
-use mathlib.Core.Bool.{Bool, cond}
+use mathlib.Core.Bool.{cond}
 use mathlib.Core.List.{List, [], _∷_}
 use mathlib.Core.Option.{Option, none, some}
-use lib.Dec.{eqb, ltb}
+use lib.Dec.{eqb}
 use lib.ListN.{length}
 use Rattle.text.specs.Programs.{readPrograms}
 use Rattle.text.specs.Report.{Report, readReport}
@@ -14,7 +14,7 @@ use Rattle.text.specs.declared.trace.Event.{Event}
 use Rattle.model.specs.Audit.{row4, row4Open, row6, row7, row8, row9, replayChecks}
 use Rattle.model.specs.Batch.{Batch}
 use Rattle.model.specs.Checks.{Verdict, Check, check, firstFault}
-use Rattle.machine.specs.Instance.{machine}
+use Rattle.machine.specs.Instance.{known, machine}
 use Rattle.machine.specs.Objects.{atStart}
 use Rattle.machine.specs.Processes.{limit}
 use Rattle.machine.specs.Rules.{rulingOf}
@@ -39,10 +39,6 @@ brokenLine (Broken n) = some n
 -- Row 2: a program rule broken.
 abbrev pub row2 : List Program → Option ℕ
 row2 table = brokenLine (rulingOf table)
-
--- the numbers of the programs that there are
-abbrev pub known : List Program → ℕ → Bool
-known table prog = ltb prog (length table)
 
 abbrev pub batchOf : List Event → Report → Batch
 batchOf trace report = record { trace = trace; ofs = report .ofs; log = report .log }

@@ -3,11 +3,11 @@ use Prim.Native.Nat.{ℕ}
 use mathlib.Core.List.{List, [], _∷_, _++_}
 use Rattle.lines.specs.Bytes.{bytes}
 use Rattle.lines.specs.LineText.{lineText}
+use Rattle.writing.specs.Verdict.{verdictText}
 use Rattle.verifier.specs.declared.Audited.{Audited}
 
 unfoldable pub auditedText : Audited → List ℕ
 auditedText a =
-    lineText (bytes "verdict=") (a .verdict ∷ [])
-    ++ (lineText (bytes "line=") (a .line ∷ [])
+    verdictText (a .verdict) (a .line)
     ++ (lineText (bytes "requests=") (a .requests ∷ [])
-    ++ lineText (bytes "operations=") (a .operations ∷ [])))
+    ++ lineText (bytes "operations=") (a .operations ∷ []))

@@ -20,10 +20,10 @@ use Rattle.ordering.specs.Lists.{All}
 use Rattle.model.specs.Audit.{row4, row4Open, reportChecks}
 use Rattle.model.specs.Batch.{Batch, named, countOf}
 use Rattle.model.specs.Checks.{check, firstFault}
-use Rattle.machine.specs.Instance.{machine}
+use Rattle.machine.specs.Instance.{known, machine}
 use Rattle.machine.specs.Objects.{atStart}
 use Rattle.machine.specs.Processes.{limit}
-use Rattle.verifier.specs.Faults.{badLine, contents, known, batchOf, audited}
+use Rattle.verifier.specs.Faults.{badLine, contents, batchOf, audited}
 use Rattle.verifier.specs.declared.Audited.{Audited}
 
 -- whether one of several passes a test

@@ -1,3 +1,4 @@
 pub mod Texts
 pub mod TraceWriting
 pub mod ReportWriting
+pub mod VerdictLines

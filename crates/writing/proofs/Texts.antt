@@ -1,21 +1,20 @@
 -- Laws of texts one behind the other.
 use Prim.Native.Nat.{ℕ, zero, suc, _+_, _*_, _-_, _<_, _≤_}
 use mathlib.Core.List.{List, [], _∷_, _++_, append-assoc, append-nil}
-use mathlib.Core.Path.{_≡_, refl, sym, _∙_, ap}
+use mathlib.Core.Path.{_≡_, refl, sym, _∙_, ap, subst}
 use native.Mathlib.Omega.{arith}
 use native.Mathlib.Numerals.{add-one}
 use native.Mathlib.Nat.{mul-suc}
-use lib.ListN.{length, take, drop, length-append, length-drop}
+use lib.ListN.{length, take, drop, length-append}
 use Rattle.lines.specs.Put.{writtenOf, front, PutIs}
 use Rattle.lines.specs.declared.writer.Put.{Put}
-use Rattle.lines.proofs.Parts.{rest-all}
-use Rattle.lines.proofs.Puts.{put-done}
 use Rattle.lines.proofs.Writing.{
   Writing,
+  lent,
   writing-start,
   writing-as,
   writing-room,
-  writing-part,
+  writing-put,
   writing-done,
   writing-length,
 }
@@ -133,28 +132,18 @@ module _ {f : ℕ → List ℕ} {n : ℕ} {o out : List ℕ} {at i : ℕ} (r : F
   -- a writer was lent `&mut out[at..]`, which it left as ys
   module _ (h : i < n) (t ys : List ℕ) (p : Put) (k : ℕ) (e : t ≡ f i) (d : PutIs t (take (length out - at) (drop at out)) ys p)
       (w : k ≡ writtenOf p) where
-    next : Writing (texts f n) o out at (f i ++ textsFrom f (i + 1) (n - (i + 1)))
-    next = writing-as (texts-next f i n h) (r .writing)
-
-    done : (writtenOf p ≡ length t) × (ys ≡ front t (take (length out - at) (drop at out)))
-    done = put-done t (take (length out - at) (drop at out)) ys p
-        (rw (rest-all at out, length-drop at out) (omega (arith, e′, simp length-append at (writing-room next))))
-        d
-      where
-        e′ : length t ≡ length (f i)
-        e′ = ap length e
-
-    pub filling-next : Filling f n o (take at out ++ (ys ++ drop (length out - at) (drop at out))) (at + k) (i + 1)
+    pub filling-next : Filling f n o (lent out at ys) (at + k) (i + 1)
     filling-next =
         record {
           some = omega arith;
-          writing = writing-part (f i) _ ys k next
-              (done .1 ∙ ap (λ x. front x (take (length out - at) (drop at out))) e)
-              (w ∙ done .0 ∙ ap length e);
+          writing = writing-put (f i) _ ys p k (writing-as (texts-next f i n h) (r .writing))
+              (subst (λ t. PutIs t (take (length out - at) (drop at out)) ys p) e d) w;
         }
 
     pub filling-fits : at + k ≤ length out
-    filling-fits = omega (arith, w, done .0, ap length e, simp length-append at (writing-room next))
+    filling-fits =
+        let w = filling-next .writing in
+        omega (arith, writing-room w, writing-length w, writing-length (r .writing))
 
   pub filling-done : n ≤ i → (at ≡ length (texts f n)) × (out ≡ front (texts f n) o)
   filling-done h = writing-done (r .writing) (ap length (texts-end f i n h))

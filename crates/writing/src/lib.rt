@@ -1,8 +1,11 @@
-// A trace and a report, written from the arrays of records to the front of a lent buffer.
+// A trace and a report from the arrays of records, and the verdict lines, written to the front of a lent buffer.
 mod reports;
 mod traces;
+mod verdicts;
 
 pub use reports::put_report;
 pub use reports::report_width;
 pub use traces::put_trace;
 pub use traces::trace_width;
+pub use verdicts::put_verdict;
+pub use verdicts::verdict_width;

@@ -1,0 +1,167 @@
+-- At the end of a run: row 15 on the arrays is the model's, and what the arrays hold is the batch that the model's host writes.
+use Prim.Native.Nat.{ℕ, zero, suc, _+_, _%_, _≤_, _<_, min}
+use mathlib.Core.Bool.{Bool, true, false}
+use mathlib.Core.List.{List, [], _∷_, _++_}
+use mathlib.Core.Option.{Option}
+use mathlib.Core.Path.{_≡_, refl, sym, ap, _∙_}
+use native.Mathlib.Nat.{mod-eq-of-lt}
+use native.Mathlib.Omega.{arith}
+use lib.Dec.{ltb}
+use lib.ListN.{length, getD}
+use borrow.Author.Tests.{lt-ltb}
+use Rattle.text.specs.Held.{eventAt, ofAt, entryAt}
+use Rattle.text.specs.Rows.{row, firsts}
+use Rattle.text.specs.declared.programs.Program.{Program}
+use Rattle.text.specs.declared.report.Entry.{Entry}
+use Rattle.text.specs.declared.report.Of.{Of}
+use Rattle.text.specs.declared.schedule.Move.the-variants.{Arrive, Turn}
+use Rattle.text.specs.declared.schedule.Move.{Move}
+use Rattle.text.specs.declared.trace.Event.the-variants.{Request, Response}
+use Rattle.text.specs.declared.trace.Event.{Event}
+use Rattle.text.proofs.RowLaws.{firsts-length, firsts-same}
+use Rattle.ordering.specs.Lists.{All}
+use Rattle.ordering.proofs.Basics.{byBool}
+use Rattle.model.specs.Batch.{Batch}
+use Rattle.model.specs.Checks.{firstBad, breaks}
+use Rattle.model.specs.Host.{Host, isOpen, bad15, row15, ofsFrom, logsFrom, batchOf}
+use Rattle.model.specs.PlainRun.{State, Phase, absent, opened, closed, operationsOf}
+use Rattle.host.specs.Recorded.{Texts, textsOf}
+use Rattle.host.specs.Requests.{isOpenIn, progressIn, standingIn, waitsIn}
+use Rattle.host.specs.Runs.{Seen, missing, going, over, seenRow, seenSlot, ridsOf, leftOpen, M, seen, RequestsIs, EventsIs, LinesIs, RidIn}
+use Rattle.host.specs.Steps.{heldTexts, linesOf, Sorted}
+use Rattle.host.proofs.Sorting.{lines-few}
+
+-- what is seen of a request: whether it is open, and its operations
+abbrev opensIn : Seen → Bool
+opensIn missing = false
+opensIn (going prog l at done k) = true
+opensIn (over k) = false
+
+abbrev operationsIn : Seen → ℕ
+operationsIn missing = 0
+operationsIn (going prog l at done k) = k
+operationsIn (over k) = k
+
+row-opens : (v : List ℕ) (k : ℕ) → opensIn (seenRow v k) ≡ isOpenIn v
+row-opens v k = byBool (isOpenIn v) (λ t. rw t refl) (λ t. rw t refl)
+
+row-operations : (v : List ℕ) (k : ℕ) → operationsIn (seenRow v k) ≡ k
+row-operations v k = byBool (isOpenIn v) (λ t. rw t refl) (λ t. rw t refl)
+
+-- a slot below 65 waits where its request is open
+slot-waits : (states ofs : List ℕ) (slot : ℕ) → slot ≤ 64 → opensIn (seenSlot states ofs slot) ≡ waitsIn (standingIn states slot)
+unfolding standingIn
+slot-waits states ofs zero h = refl
+slot-waits states ofs (suc s) h =
+    let v = row 12 states s in
+    row-opens v (ofAt ofs s .count)
+    ∙ byBool (isOpenIn v) (λ t. rw (lt-ltb s 64 (omega arith), t) refl) (λ t. rw (lt-ltb s 64 (omega arith), t) refl)
+
+-- a scan by another test that says the same
+scan-same : (p q : List Move → Move → Bool) (P : Move → Type 0) → ((past : List Move) (m : Move) → P m → p past m ≡ q past m) →
+    (n : ℕ) (past ms : List Move) → All P ms → firstBad p n past ms ≡ firstBad q n past ms
+scan-same p q P h n past [] a = refl
+scan-same p q P h n past (m ∷ ms) a =
+    let e = h past m (a .0) in
+    let d = scan-same p q P h (suc n) (m ∷ past) ms (a .1) in
+    byBool (q past m) (λ t. rw (e ∙ t, t) refl) (λ t. rw (e ∙ t, t) d)
+
+module _ (table : List Program) where
+  opens-as : (f : Phase (M table)) → isOpen (M table) f ≡ opensIn (seen table f)
+  opens-as absent = refl
+  opens-as (opened p k) = refl
+  opens-as (closed w k) = refl
+
+  operations-as : (f : Phase (M table)) → operationsOf (M table) f ≡ operationsIn (seen table f)
+  operations-as absent = refl
+  operations-as (opened p k) = refl
+  operations-as (closed w k) = refl
+
+  -- the `of` lines of requests that arrived in this order
+  abbrev ofsOver : (ℕ → Phase (M table)) → ℕ → List ℕ → List Of
+  ofsOver phase n [] = []
+  ofsOver phase n (r ∷ rs) = record { rid = r; group = n; count = operationsOf (M table) (phase r) } ∷ ofsOver phase (suc n) rs
+
+  ofs-over : (phase : ℕ → Phase (M table)) (n : ℕ) (es : List Event) → ofsFrom (M table) phase n es ≡ ofsOver phase n (ridsOf es)
+  ofs-over phase n [] = refl
+  ofs-over phase n (Request r prog a b ∷ es) =
+      ap (λ xs. record { rid = r; group = n; count = operationsOf (M table) (phase r) } ∷ xs) (ofs-over phase (suc n) es)
+  ofs-over phase n (Response r status value ∷ es) = ofs-over phase n es
+
+  ofs-snoc : (phase : ℕ → Phase (M table)) (n : ℕ) (rs : List ℕ) (r : ℕ) →
+      ofsOver phase n (rs ++ r ∷ [])
+      ≡ ofsOver phase n rs ++ record { rid = r; group = n + length rs; count = operationsOf (M table) (phase r) } ∷ []
+  ofs-snoc phase n [] r =
+      let e : n ≡ n + 0 = omega arith in
+      λ i. record { rid = r; group = e i; count = operationsOf (M table) (phase r) } ∷ []
+  ofs-snoc phase n (q ∷ rs) r =
+      let e : suc n + length rs ≡ n + suc (length rs) = omega arith in
+      ap (λ xs. record { rid = q; group = n; count = operationsOf (M table) (phase q) } ∷ xs)
+      (ofs-snoc phase (suc n) rs r
+      ∙ (λ i. ofsOver phase (suc n) rs ++ record { rid = r; group = e i; count = operationsOf (M table) (phase r) } ∷ []))
+
+  ofs-firsts : (phase : ℕ → Phase (M table)) (f : ℕ → ℕ) (m : ℕ) →
+      ofsOver phase 0 (firsts f m) ≡ firsts (λ s. record { rid = f s; group = s; count = operationsOf (M table) (phase (f s)) }) m
+  unfolding firsts
+  ofs-firsts phase f zero = refl
+  ofs-firsts phase f (suc m) =
+      let e : 0 + length (firsts f m) ≡ m = omega (arith, firsts-length f m) in
+      ofs-snoc phase 0 (firsts f m) (f m)
+      ∙ (λ i. ofs-firsts phase f m i ++ record { rid = f m; group = e i; count = operationsOf (M table) (phase (f m)) } ∷ [])
+
+  module _ (slots states ofs : List ℕ) (m k : ℕ) (s : State (M table)) (trace : List Event)
+      (g : RequestsIs table slots states ofs m k (s .phase) trace) where
+    slot-few : (r : ℕ) → r < 65536 → (slot : ℕ) → getD slots r 0 ≡ slot → slot ≤ 64
+    slot-few r h zero e = omega arith
+    slot-few r h (suc q) e = omega (arith, g .owner r q h e .0, g .few)
+
+    bad-same : (past : List Move) (x : Move) → RidIn x → bad15 (M table) s past x ≡ leftOpen slots states past x
+    bad-same past (Turn r) h = refl
+    bad-same past (Arrive r prog a b) h =
+        opens-as (s .phase r) ∙ ap opensIn (g .phases r h)
+        ∙ slot-waits states ofs (getD slots r 0) (slot-few r h (getD slots r 0) refl)
+        ∙ ap (λ q. waitsIn (standingIn states (getD slots q 0))) (sym (mod-eq-of-lt h))
+
+    pub row15-is : (ms : List Move) → All RidIn ms → row15 (M table) s ms ≡ firstBad (leftOpen slots states) 1 [] ms
+    row15-is ms a = scan-same (bad15 (M table) s) (leftOpen slots states) RidIn bad-same 1 [] ms a
+
+    of-is : (q : ℕ) → q < m → ofAt ofs q
+        ≡ record { rid = ofAt ofs q .rid; group = q; count = operationsOf (M table) (s .phase (ofAt ofs q .rid)) }
+    of-is q h =
+        let w = g .rows q h in
+        let r = ofAt ofs q .rid in
+        let group = w .group in
+        let count : ofAt ofs q .count ≡ operationsOf (M table) (s .phase r) =
+        sym (operations-as (s .phase r) ∙ ap operationsIn (g .phases r (w .rid) ∙ ap (seenSlot states ofs) (w .slot))
+        ∙ row-operations (row 12 states q) (ofAt ofs q .count)) in
+        λ i. record { rid = r; group = group i; count = count i }
+
+    pub ofs-are : firsts (ofAt ofs) m ≡ ofsFrom (M table) (s .phase) 0 trace
+    ofs-are =
+        firsts-same (ofAt ofs) (λ q. record { rid = ofAt ofs q .rid; group = q; count = operationsOf (M table) (s .phase (ofAt ofs q .rid)) }) m
+        of-is
+        ∙ sym (ofs-over (s .phase) 0 trace ∙ ap (ofsOver (s .phase) 0) (g .arrived) ∙ ofs-firsts (s .phase) (λ q. ofAt ofs q .rid) m)
+
+logs-same : (f g : ℕ → List Entry) → ((o : ℕ) → f o ≡ g o) → (k m : ℕ) → logsFrom f k m ≡ logsFrom g k m
+logs-same f g h k zero = refl
+logs-same f g h k (suc m) =
+    let e = h k in
+    let d = logs-same f g h (suc k) m in
+    λ i. e i ++ d i
+
+-- the texts of what the arrays hold are those of the batch
+module _ (table : List Program) (slots states ofs events logs sorted : List ℕ) (m t k l : ℕ) (h : Host (M table))
+    (g : RequestsIs table slots states ofs m k (h .state .phase) (h .trace)) (e : EventsIs events t (h .trace))
+    (x : LinesIs logs k (h .state .logs)) (y : Sorted logs k 16 sorted l) where
+  pub texts-are : heldTexts events t ofs m sorted l ≡ textsOf (batchOf (M table) 16 h)
+  texts-are =
+      let few : l ≤ 1024 = omega (arith, y .count, lines-few (firsts (entryAt logs) k) 0 16, firsts-length (entryAt logs) k, x .few) in
+      let p : min t 128 ≡ t = omega (arith, e .few) in
+      let q : min m 64 ≡ m = omega (arith, g .few) in
+      let r : min l 1024 ≡ l = omega (arith, few) in
+      let es : firsts (eventAt events) (min t 128) ≡ h .trace = ap (firsts (eventAt events)) p ∙ e .held in
+      let os : firsts (ofAt ofs) (min m 64) ≡ ofsFrom (M table) (h .state .phase) 0 (h .trace) =
+      ap (firsts (ofAt ofs)) q ∙ ofs-are table slots states ofs m k (h .state) (h .trace) g in
+      let ls : firsts (entryAt sorted) (min l 1024) ≡ logsFrom (h .state .logs) 0 16 =
+      ap (firsts (entryAt sorted)) r ∙ y .lines ∙ sym (logs-same (h .state .logs) (linesOf logs k) (x .held) 0 16) in
+      λ i. textsOf (record { trace = es i; ofs = os i; log = ls i })

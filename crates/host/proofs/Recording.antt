@@ -1,0 +1,175 @@
+-- The checks of the reference host in their order: each refusal is that of `recordOf`, and so is what is written.
+use Prim.Native.Nat.{ℕ, _+_, _≤_, _<_, min}
+use mathlib.Core.Bool.{true, false}
+use mathlib.Core.List.{List, [], _∷_}
+use mathlib.Core.Option.{Option, none, some}
+use mathlib.Core.Path.{_≡_, refl, sym, ap, subst, _∙_}
+use native.Mathlib.Omega.{arith}
+use lib.ListN.{length, replicate, length-replicate}
+use Rattle.lines.specs.Put.{front}
+use Rattle.text.specs.Held.{linesIn, readIn, moveAt, programAt, programsIn, ProgramsIs, ScheduleIs}
+use Rattle.text.specs.Programs.{readPrograms}
+use Rattle.text.specs.Rows.{firsts}
+use Rattle.text.specs.Schedule.{readSchedule}
+use Rattle.text.specs.Text.{readable, unreadable}
+use Rattle.text.specs.declared.kinds.Lines.the-variants.{Readable, Unreadable}
+use Rattle.text.specs.declared.kinds.Lines.{Lines}
+use Rattle.text.specs.declared.programs.Programs.{Programs}
+use Rattle.text.specs.declared.schedule.Move.the-variants.{Arrive, Turn}
+use Rattle.text.specs.declared.schedule.Move.{Move}
+use Rattle.ordering.specs.Lists.{All}
+use Rattle.model.specs.Checks.{firstBad}
+use Rattle.model.specs.Host.{Host, Result, fault, made, row15, close, write, batchOf}
+use Rattle.machine.specs.Rules.{rulingOf}
+use Rattle.machine.specs.declared.rules.Ruling.the-variants.{Kept, Broken}
+use Rattle.machine.specs.declared.rules.Ruling.{Ruling}
+use Rattle.verifier.specs.Faults.{brokenLine}
+use Rattle.host.specs.Accepted.{Accepted}
+use Rattle.host.specs.Recorded.{
+  andThen,
+  readAs,
+  ruled,
+  tableOf,
+  runOf,
+  Texts,
+  textsOf,
+  fitted,
+  recordOf,
+  resultOf,
+  RecordIs,
+}
+use Rattle.host.specs.Recorded as recorded
+use Rattle.host.specs.Runs.{leftOpen, M, RidIn, tableIn, movesIn, ran, recordedMoves, Scheduled, Ready, Finished, RunIs}
+use Rattle.host.specs.Steps.{heldTexts, Sorted}
+use Rattle.host.specs.declared.Recorded.{Recorded}
+use Rattle.host.specs.declared.runs.Run.the-variants.{Breaks, Ends}
+use Rattle.host.specs.declared.runs.Run.{Run}
+use Rattle.host.specs.declared.steps.Counts.{Counts}
+use Rattle.host.proofs.Acceptance.{record-accepted}
+use Rattle.host.proofs.Finishing.{row15-is, texts-are}
+use Rattle.host.proofs.Readings.{MoveIn, ScheduleIn, schedule-in}
+
+-- a refusal writes nothing
+pub refuses : (x : Result Texts) (o p : List ℕ) (verdict line : ℕ) (r : Recorded) → x ≡ fault verdict line →
+    r ≡ resultOf (fault verdict line) → RecordIs x o p o p r
+unfolding front
+refuses x o p verdict line r e d = rw e (record { result = d; traceBytes = refl; reportBytes = refl })
+
+-- ── rows 14 to 16 ──
+module _ (ps : Programs) (moves arrivals : List ℕ) (n : ℕ) where
+  pub ready : (slots states ofs events logs : List ℕ) → Scheduled ps moves arrivals n → slots ≡ replicate 65536 0 → length states ≡ 768 →
+      length ofs ≡ 192 → length events ≡ 640 → length logs ≡ 6144 → Ready ps moves arrivals n slots states ofs events logs
+  ready slots states ofs events logs s a b c d e =
+      record { scheduled = s; slotsBlank = a; statesRoom = b; ofsRoom = c; eventsRoom = d; logsRoom = e }
+
+  abbrev moved : List Move
+  moved = movesIn moves arrivals n
+
+  module _ (u v : ℕ) (slots states ofs events logs : List ℕ) (x : Run) (f : RunIs ps moves arrivals n slots states ofs events logs x) where
+    pub at-14 : (line : ℕ) → x ≡ Breaks line → recordedMoves (tableIn ps) moved u v ≡ fault 14 line
+    unfolding RunIs
+    at-14 line e =
+        let d : ran (tableIn ps) moved ≡ fault 14 line = subst (RunIs ps moves arrivals n slots states ofs events logs) e f in
+        ap (λ z. andThen (write (M (tableIn ps)) 16 moved z) (λ b. fitted u v (textsOf b))) d
+
+    module _ (c : Counts) (e : x ≡ Ends c) where
+      finished : Finished ps moves arrivals n slots states ofs events logs c
+      unfolding RunIs
+      finished = subst (RunIs ps moves arrivals n slots states ofs events logs) e f
+
+      pub few-lines : c .operations ≤ 1024
+      few-lines = finished .lines .few
+
+      abbrev closes : Option ℕ → Result Texts
+      closes o = andThen (close (M (tableIn ps)) 16 (finished .host) o) (λ b. fitted u v (textsOf b))
+
+      closing : (s : Scheduled ps moves arrivals n) → (o : Option ℕ) → o ≡ firstBad (leftOpen slots states) 1 [] moved →
+          recordedMoves (tableIn ps) moved u v ≡ closes o
+      closing s o d =
+          let w = finished in
+          let z = row15-is (tableIn ps) slots states ofs (c .requests) (c .operations) (w .host .state) (w .host .trace) (w .requests) moved
+          (s .rids) in
+          ap (λ z. andThen (write (M (tableIn ps)) 16 moved z) (λ b. fitted u v (textsOf b))) (w .made-it)
+          ∙ ap closes (z ∙ sym d)
+
+      module _ (s : Scheduled ps moves arrivals n) (y : Ruling) (d : brokenLine y ≡ firstBad (leftOpen slots states) 1 [] moved) where
+        pub at-15 : (line : ℕ) → y ≡ Broken line → recordedMoves (tableIn ps) moved u v ≡ fault 15 line
+        at-15 line k = closing s (brokenLine y) d ∙ ap (λ y. closes (brokenLine y)) k
+
+        pub past-15 : y ≡ Kept → (sorted : List ℕ) (l : ℕ) → Sorted logs (c .operations) 16 sorted l →
+            recordedMoves (tableIn ps) moved u v ≡ fitted u v (heldTexts events (c .events) ofs (c .requests) sorted l)
+        past-15 k sorted l z =
+            let w = finished in
+            closing s (brokenLine y) d ∙ ap (λ y. closes (brokenLine y)) k
+            ∙ ap (fitted u v) (sym (texts-are (tableIn ps) slots states ofs events logs sorted (c .requests) (c .events) (c .operations) l
+            (w .host) (w .requests) (w .events-held) (w .lines) z))
+
+pub record-as : (x y : Result Texts) (o p o′ p′ : List ℕ) (r : Recorded) → x ≡ y → RecordIs y o p o′ p′ r → RecordIs x o p o′ p′ r
+record-as x y o p o′ p′ r e h = rw e h
+
+-- ── rows 1, 2 and 13 ──
+rids-in : (ms : List Move) → All MoveIn ms → All RidIn ms
+rids-in [] h = tt
+rids-in (Arrive r prog a b ∷ ms) h = (omega (arith, h .0 .0), rids-in ms (h .1))
+rids-in (Turn r ∷ ms) h = (tt, rids-in ms (h .1))
+
+module _ (s schedule : List ℕ) (u v : ℕ) (ps : Programs) (h : ProgramsIs s ps) where
+  pub at-1 : ps .ok ≡ false → recordOf s schedule u v ≡ fault 1 (ps .line)
+  unfolding recordOf recorded.batchOf programsIn
+  at-1 e = let z : unreadable (ps .line) ≡ readPrograms s = rw e at (h .read) in rw (← z) refl
+
+  module _ (ok : ps .ok ≡ true) where
+    table-read : readable (tableIn ps) ≡ readPrograms s
+    unfolding programsIn
+    table-read = rw ok at (h .read)
+
+    module _ (r : Ruling) (e : r ≡ rulingOf (firsts (programAt (ps .table)) (min (ps .n) 16))) where
+      rules : r ≡ rulingOf (tableIn ps)
+      rules =
+          let z : min (ps .n) 16 ≡ ps .n = omega (arith, h .few) in
+          e ∙ ap (λ n. rulingOf (firsts (programAt (ps .table)) n)) z
+
+      pub at-2 : (line : ℕ) → r ≡ Broken line → recordOf s schedule u v ≡ fault 2 line
+      unfolding recordOf recorded.batchOf
+      at-2 line d =
+          let z : rulingOf (tableIn ps) ≡ Broken line = sym rules ∙ d in
+          rw (← table-read, z) refl
+
+      module _ (k : r ≡ Kept) (l : Lines) (moves arrivals : List ℕ) (g : ScheduleIs schedule l moves arrivals) where
+        z : rulingOf (tableIn ps) ≡ Kept
+        z = sym rules ∙ k
+
+        pub at-13 : (line : ℕ) → l ≡ Unreadable line → recordOf s schedule u v ≡ fault 13 line
+        unfolding recordOf recorded.batchOf readIn
+        at-13 line d =
+            let w : unreadable line ≡ readSchedule schedule = sym (ap (readIn (moveAt moves arrivals)) d) ∙ g .read in
+            rw (← table-read, z, ← w) refl
+
+        module _ (n : ℕ) (d : l ≡ Readable n) where
+          moves-read : readSchedule schedule ≡ readable (movesIn moves arrivals n)
+          unfolding readIn
+          moves-read = sym (g .read) ∙ ap (readIn (moveAt moves arrivals)) d
+
+          pub past-13 : recordOf s schedule u v ≡ recordedMoves (tableIn ps) (movesIn moves arrivals n) u v
+          unfolding recordOf recorded.batchOf
+          past-13 = rw (← table-read, z, moves-read) refl
+
+          pub scheduled : Scheduled ps moves arrivals n
+          scheduled =
+              let w = schedule-in schedule (movesIn moves arrivals n) moves-read in
+              record {
+                few = h .few;
+                bounded = h .bounded;
+                lines = subst (λ l. linesIn l ≤ 9362) d (g .few);
+                movesRoom = g .room;
+                rids = rids-in (movesIn moves arrivals n) (w .moves);
+                arrivalsFew = w .few;
+              }
+
+-- both promises of the host
+pub promised : (programs schedule trace report traceAfter reportAfter : List ℕ) (r : Recorded) →
+    RecordIs (recordOf programs schedule (length trace) (length report)) trace report traceAfter reportAfter r →
+    RecordIs (recordOf programs schedule (length trace) (length report)) trace report traceAfter reportAfter r
+    × ((r .verdict ≡ 0) → Accepted programs schedule traceAfter reportAfter r)
+promised programs schedule trace report traceAfter reportAfter r h =
+    (h, record-accepted programs schedule trace report traceAfter reportAfter r h)

@@ -1,0 +1,229 @@
+-- The loop over a schedule: the arrays hold the state of the model's host, and what is left of the schedule, run from it, gives what the
+-- whole gives.
+use Prim.Native.Nat.{ℕ, zero, suc, _+_, _-_, _%_, _≤_, _<_}
+use mathlib.Core.Bool.{Bool, true, false}
+use mathlib.Core.List.{List, [], _∷_, _++_}
+use mathlib.Core.Path.{_≡_, refl, sym, ap, subst, _∙_}
+use mathlib.Core.Logic.{_⊎_, inl, inr}
+use native.Mathlib.Nat.{mod-eq-of-lt}
+use native.Mathlib.Numerals.{add-one}
+use native.Mathlib.Omega.{arith}
+use lib.Dec.{eqb, ltb}
+use lib.ListN.{length, getD, replicate, length-replicate, getD-replicate}
+use borrow.Author.Tests.{lt-ltb, le-ltb, ltb-true, ltb-false}
+use Rattle.text.specs.Held.{noProgram, Bounded, eventAt, ofAt, moveAt}
+use Rattle.text.specs.Rows.{row, firsts}
+use Rattle.text.specs.declared.programs.Program.{Program}
+use Rattle.text.specs.declared.programs.Programs.{Programs}
+use Rattle.text.specs.declared.schedule.Move.the-variants.{Arrive, Turn}
+use Rattle.text.specs.declared.schedule.Move.{Move}
+use Rattle.text.specs.declared.trace.Event.the-variants.{Request, Response}
+use Rattle.text.specs.declared.trace.Event.{Event}
+use Rattle.text.proofs.RowLaws.{firsts-length}
+use Rattle.ordering.specs.Lists.{All}
+use Rattle.ordering.proofs.Basics.{clash, byBool, byEq}
+use Rattle.model.specs.Host.{Host, empty, Stepped, broken, on, Result, fault, made, goOn, stepped, arrive, afterArrival}
+use Rattle.model.specs.PlainRun.{Phase, absent, opened, closed}
+use Rattle.model.specs.Ranges.{requestsIn, responsesIn, arrivalsIn}
+use Rattle.model.proofs.Faithful.{hasArrived, isClosed, Faithful, faithful-empty, faithful-arrive, add-response}
+use Rattle.model.proofs.Ranges.{responses-few, requests-append}
+use Rattle.machine.specs.Instance.{known}
+use Rattle.machine.specs.Objects.{atStart}
+use Rattle.machine.proofs.Passing.{registers-start, index-start}
+use Rattle.verifier.proofs.Scans.{from, firsts-from, from-next, from-end}
+use Rattle.host.specs.Moves.{counts, Arrived, ArriveIs}
+use Rattle.host.specs.Requests.{isOpenIn, progressIn, standingRow, standingIn}
+use Rattle.host.specs.Runs.{
+  missing,
+  over,
+  seenRow,
+  seenSlot,
+  ridsOf,
+  M,
+  seen,
+  RequestsIs,
+  EventsIs,
+  LinesIs,
+  RidIn,
+  tableIn,
+  movesIn,
+  ranFrom,
+  ran,
+  Ready,
+  Finished,
+}
+use Rattle.host.specs.declared.requests.Standing.the-variants.{Missing, Idle, Open}
+use Rattle.host.specs.declared.requests.Standing.{Standing}
+use Rattle.host.specs.declared.steps.Counts.{Counts}
+use Rattle.host.specs.declared.steps.Step.the-variants.{Broken, On}
+use Rattle.host.specs.declared.steps.Step.{Step}
+use Rattle.host.proofs.EventRows.{event-joins}
+use Rattle.host.proofs.LogLines.{ObjectsIs}
+use Rattle.host.proofs.Slots.{absent-seen, closed-seen, opens}
+
+-- ── counts of a trace ──
+events-split : (es : List Event) → length es ≡ requestsIn es + responsesIn es
+events-split [] = omega arith
+events-split (Request r prog a b ∷ es) = omega (arith, events-split es)
+events-split (Response r status value ∷ es) = omega (arith, events-split es)
+
+rids-length : (es : List Event) → length (ridsOf es) ≡ requestsIn es
+rids-length [] = refl
+rids-length (Request r prog a b ∷ es) = ap suc (rids-length es)
+rids-length (Response r status value ∷ es) = rids-length es
+
+pub responses-more : (es : List Event) (r status value : ℕ) → responsesIn (es ++ Response r status value ∷ []) ≡ suc (responsesIn es)
+responses-more [] r status value = refl
+responses-more (Request q prog a b ∷ es) r status value = responses-more es r status value
+responses-more (Response q s v ∷ es) r status value = ap suc (responses-more es r status value)
+
+-- ── what a turn finds in a slot ──
+module _ (states : List ℕ) where
+  abbrev pub Finds : Standing → ℕ → Type 0
+  Finds Missing slot = (slot ≡ 0) ⊎ (64 < slot)
+  Finds Idle slot = (s : ℕ) × (slot ≡ suc s) × (isOpenIn (row 12 states s) ≡ false)
+  Finds (Open s prog) slot = (slot ≡ suc s) × (s < 64) × (isOpenIn (row 12 states s) ≡ true) × (prog ≡ progressIn (row 12 states s) .prog)
+
+  pub finds : (slot : ℕ) (x : Standing) → x ≡ standingIn states slot → Finds x slot
+  unfolding standingIn
+  finds zero x e = subst (λ x. Finds x zero) (sym e) (inl refl)
+  finds (suc s) x e =
+      let v = row 12 states s in
+      byBool (ltb s 64)
+      (λ t. byBool (isOpenIn v)
+      (λ o.
+      let d : x ≡ Open s (progressIn v .prog) = e ∙ rw (t, o) refl in
+      subst (λ x. Finds x (suc s)) (sym d) (refl, ltb-true s 64 t, o, refl))
+      (λ o.
+      let d : x ≡ Idle = e ∙ rw (t, o) refl in
+      subst (λ x. Finds x (suc s)) (sym d) (s, refl, o)))
+      (λ t.
+      let d : x ≡ Missing = e ∙ rw t refl in
+      let h = ltb-false s 64 t in
+      subst (λ x. Finds x (suc s)) (sym d) (inr (omega (arith, h))))
+
+pub turn-below : (moves arrivals : List ℕ) (i r : ℕ) → moveAt moves arrivals i ≡ Turn r → r < 65536
+unfolding moveAt
+turn-below moves arrivals i r e =
+    byBool (ltb (getD moves i 0) 65536)
+    (λ t. let e′ = rw t at e in let z : getD moves i 0 ≡ r = cc in subst (λ r. r < 65536) z (ltb-true (getD moves i 0) 65536 t))
+    (λ t. let e′ = rw t at e in clash (cc))
+
+module _ (ps : Programs) (moves arrivals : List ℕ) (n : ℕ) where
+  abbrev pub T : List Program
+  T = tableIn ps
+
+  abbrev pub move : ℕ → Move
+  move = moveAt moves arrivals
+
+  -- the lines from line i on (from 0)
+  abbrev pub left : ℕ → List Move
+  left i = from move i (n - i)
+
+  abbrev pub whole : Result (Host (M T))
+  whole = ran T (movesIn moves arrivals n)
+
+  pub record Running (i : ℕ) (c : Counts) (slots states ofs events logs registers heads befores : List ℕ) : Type 0 where
+    pub within : i ≤ n
+    pub scheduled : n ≤ 9362
+    pub movesRoom : length moves ≡ 9362
+    pub few : ps .n ≤ 16
+    pub bounded : (k : ℕ) → k < ps .n → Bounded (getD (ps .table) k noProgram)
+    pub host : Host (M T)
+    pub goes : ranFrom T (suc i) (left i) host ≡ whole
+    pub rids : All RidIn (left i)
+    pub toCome : c .requests + arrivalsIn (left i) ≤ 64
+    pub requests : RequestsIs T slots states ofs (c .requests) (c .operations) (host .state .phase) (host .trace)
+    pub events-held : EventsIs events (c .events) (host .trace)
+    pub lines : LinesIs logs (c .operations) (host .state .logs)
+    pub objects : ObjectsIs logs registers heads befores (c .operations) (host .state .contents) (host .operations)
+    pub faithful : Faithful (M T) (known T) 16 atStart (host .state) (host .trace)
+
+  -- before the first line
+  pub run-start : (slots states ofs events logs : List ℕ) → Ready ps moves arrivals n slots states ofs events logs →
+      Running 0 (counts 0 0 0) slots states ofs events logs (replicate 8 0) (replicate 1016 0) (replicate 1024 0)
+  unfolding firsts
+  run-start slots states ofs events logs h =
+      let z : n - 0 ≡ n = omega arith in
+      let all : left 0 ≡ movesIn moves arrivals n = ap (from move 0) z ∙ sym (firsts-from move n) in
+      let blank : (r : ℕ) → r < 65536 → getD slots r 0 ≡ 0 =
+      λ r i. ap (λ slots. getD slots r 0) (h .slotsBlank) ∙ getD-replicate 65536 r 0 0 i in
+      record {
+        within = omega arith;
+        scheduled = h .scheduled .lines;
+        movesRoom = h .scheduled .movesRoom;
+        few = h .scheduled .few;
+        bounded = h .scheduled .bounded;
+        host = empty (M T) atStart;
+        goes = ap (λ ms. ranFrom T 1 ms (empty (M T) atStart)) all;
+        rids = subst (All RidIn) (sym all) (h .scheduled .rids);
+        toCome = omega (arith, h .scheduled .arrivalsFew, ap arrivalsIn all);
+        requests =
+            record {
+              slotsRoom = ap length (h .slotsBlank) ∙ length-replicate {A = ℕ} 65536 0;
+              statesRoom = h .statesRoom;
+              ofsRoom = h .ofsRoom;
+              few = omega arith;
+              phases = λ r i. sym (ap (seenSlot states ofs) (blank r i));
+              owner = λ r s i d. absurd (omega (arith, blank r i, d));
+              rows = λ s i. absurd (omega (arith, i));
+              arrived = refl;
+            };
+        events-held = record { room = h .eventsRoom; few = omega arith; held = refl };
+        lines = record { room = h .logsRoom; few = omega arith; held = λ o. refl };
+        objects =
+            record {
+              counted = refl;
+              held = λ o. refl;
+              registersHeld = registers-start _;
+              index = index-start _;
+            };
+        faithful = faithful-empty (M T) (known T) 16 atStart;
+      }
+
+  pub known-is : (prog : ℕ) (b : Bool) → ltb prog (ps .n) ≡ b → known T prog ≡ b
+  known-is prog b e = ap (ltb prog) (firsts-length _ (ps .n)) ∙ e
+
+  module _ (i : ℕ) (c : Counts) (slots states ofs events logs registers heads befores : List ℕ)
+      (g : Running i c slots states ofs events logs registers heads befores) where
+    -- at the end
+    pub run-ends : n ≤ i → Finished ps moves arrivals n slots states ofs events logs c
+    run-ends h =
+        record {
+          host = g .host;
+          made-it = sym (g .goes) ∙ ap (λ ms. ranFrom T (suc i) ms (g .host)) (from-end move h);
+          requests = g .requests;
+          events-held = g .events-held;
+          lines = g .lines;
+        }
+
+    pub requests-are : requestsIn (g .host .trace) ≡ c .requests
+    requests-are = sym (rids-length (g .host .trace)) ∙ ap length (g .requests .arrived) ∙ firsts-length _ (c .requests)
+
+    pub events-are : c .events ≡ requestsIn (g .host .trace) + responsesIn (g .host .trace)
+    events-are = sym (firsts-length (eventAt events) (c .events)) ∙ ap length (g .events-held .held) ∙ events-split (g .host .trace)
+
+    module _ (h : i < n) where
+      split : left i ≡ move i ∷ left (i + 1)
+      split = from-next move h
+
+      stepping : goOn (M T) (known T) 1024 (suc i) (stepped (M T) (known T) 1024 (g .host) (move i)) (ranFrom T (suc (suc i)) (left (i + 1)))
+          ≡ whole
+      stepping = sym (ap (λ ms. ranFrom T (suc i) ms (g .host)) split) ∙ g .goes
+
+      pub breaks : stepped (M T) (known T) 1024 (g .host) (move i) ≡ broken → whole ≡ fault 14 (i + 1)
+      breaks e =
+          sym stepping ∙ ap (λ w. goOn (M T) (known T) 1024 (suc i) w (ranFrom T (suc (suc i)) (left (i + 1)))) e
+          ∙ ap (fault 14) (sym (add-one i))
+
+      pub goes-next : (h′ : Host (M T)) → stepped (M T) (known T) 1024 (g .host) (move i) ≡ on h′ →
+          ranFrom T (suc (i + 1)) (left (i + 1)) h′ ≡ whole
+      goes-next h′ e =
+          ap (λ j. ranFrom T (suc j) (left (i + 1)) h′) (add-one i)
+          ∙ sym (ap (λ w. goOn (M T) (known T) 1024 (suc i) w (ranFrom T (suc (suc i)) (left (i + 1)))) e) ∙ stepping
+
+      pub all-rids : All RidIn (move i ∷ left (i + 1))
+      all-rids = subst (All RidIn) split (g .rids)
+
+      pub to-come : c .requests + arrivalsIn (move i ∷ left (i + 1)) ≤ 64
+      to-come = subst (λ ms. c .requests + arrivalsIn ms ≤ 64) split (g .toCome)

@@ -1,0 +1,106 @@
+// The reference host: programs and a schedule are read, the schedule is run, and what it means is written.
+use crate::Recorded;
+use crate::logs::by_object;
+use crate::outputs::refused;
+use crate::outputs::write_texts;
+use crate::runs::Run;
+use crate::runs::row_15;
+use crate::runs::run_moves;
+use machine::Ruling;
+use machine::check_rules;
+use text::Lines;
+use text::Programs;
+use text::read_programs;
+use text::read_schedule;
+ghost use mathlib.Core.Path.{_≡_};
+ghost use lib.ListN.{length};
+ghost use Rattle.host.specs.Accepted.{Accepted};
+ghost use Rattle.host.specs.Recorded.{recordOf, RecordIs};
+ghost use Rattle.host.specs.Runs.{tableIn, movesIn, Scheduled, recordedMoves};
+
+// Rows 14 to 16, of programs and a schedule of n lines that were read.
+fn record_moves(
+    ps: Programs,
+    moves: &[u32; 9362],
+    arrivals: &[u64; 256],
+    n: usize,
+    trace: &mut [u8],
+    report: &mut [u8],
+) -> Recorded
+    requires { ⌜ Scheduled ps (now moves) (now arrivals) n ⌝ }
+    ensures { λ r. ⌜ RecordIs
+        (recordedMoves (tableIn ps) (movesIn (now (moves .entry)) (now (arrivals .entry)) n)
+        (length (now (trace .entry))) (length (now (report .entry))))
+        (now (trace .entry)) (now (report .entry)) (now (trace .exit)) (now (report .exit)) r ⌝ }
+{
+    let mut slots = [0u8; 65536];
+    let mut states = [0u64; 768];
+    let mut ofs = [0u64; 192];
+    let mut events = [0u64; 640];
+    let mut logs = [0u64; 6144];
+    match run_moves(
+        ps,
+        moves,
+        arrivals,
+        n,
+        &mut slots,
+        &mut states,
+        &mut ofs,
+        &mut events,
+        &mut logs,
+    ) {
+        Run::Breaks(line) => {
+            return refused(14, line);
+        }
+        Run::Ends(c) => {
+            match row_15(moves, arrivals, n, &slots, &states) {
+                Ruling::Broken(line) => {
+                    return refused(15, line);
+                }
+                Ruling::Kept => {}
+            }
+            let mut sorted = [0u64; 6144];
+            let k = by_object(&logs, c.operations, &mut sorted);
+            return write_texts(
+                &events,
+                c.events,
+                &ofs,
+                c.requests,
+                &sorted,
+                k,
+                trace,
+                report,
+            );
+        }
+    }
+}
+
+// What programs and a schedule mean: the trace to the front of one buffer, the report to the front of the other. A refusal writes nothing.
+pub fn record(programs: &[u8], schedule: &[u8], trace: &mut [u8], report: &mut [u8]) -> Recorded
+    ensures meaning { λ r. ⌜ RecordIs
+        (recordOf (now (programs .entry)) (now (schedule .entry)) (length (now (trace .entry))) (length (now (report .entry))))
+        (now (trace .entry)) (now (report .entry)) (now (trace .exit)) (now (report .exit)) r ⌝ }
+    ensures accepted { λ r. ⌜ ((r .verdict ≡ 0) →
+        Accepted (now (programs .entry)) (now (schedule .entry)) (now (trace .exit)) (now (report .exit)) r) ⌝ }
+{
+    let ps = read_programs(programs);
+    if !ps.ok {
+        return refused(1, ps.line as usize);
+    }
+    match check_rules(ps) {
+        Ruling::Broken(line) => {
+            return refused(2, line);
+        }
+        Ruling::Kept => {}
+    }
+    let mut moves = [0u32; 9362];
+    let mut arrivals = [0u64; 256];
+    match read_schedule(schedule, &mut moves, &mut arrivals) {
+        Lines::Unreadable(line) => {
+            return refused(13, line);
+        }
+        Lines::Readable(n) => {
+            return record_moves(ps, &moves, &arrivals, n, trace, report);
+        }
+    }
+}

@@ -1,0 +1,25 @@
+-- The verdict lines as two pieces, and how long they are.
+use Prim.Native.Nat.{ℕ, _+_}
+use mathlib.Core.List.{List, [], _∷_, _++_, append-nil}
+use mathlib.Core.Path.{_≡_, sym, ap}
+use native.Mathlib.Omega.{arith}
+use lib.ListN.{length, length-append}
+use Rattle.lines.specs.Bytes.{bytes}
+use Rattle.lines.specs.LineText.{numbersText, lineText}
+use Rattle.lines.proofs.LineTexts.{line-length}
+use Rattle.writing.specs.Verdict.{verdictText}
+
+module _ (verdict line : ℕ) where
+  abbrev pub line1 : List ℕ
+  line1 = lineText (bytes "verdict=") (verdict ∷ [])
+
+  abbrev pub line2 : List ℕ
+  line2 = lineText (bytes "line=") (line ∷ [])
+
+  pub verdict-pieces : verdictText verdict line ≡ line1 ++ (line2 ++ [])
+  unfolding verdictText
+  verdict-pieces = ap (λ t. line1 ++ t) (sym (append-nil line2))
+
+  pub verdict-length : length (verdictText verdict line) ≡ 13 + length (numbersText (verdict ∷ [])) + length (numbersText (line ∷ []))
+  unfolding verdictText
+  verdict-length = simp (length-append, line-length) (omega arith)
