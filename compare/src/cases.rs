@@ -48,16 +48,24 @@ fn worked_cases() -> impl Iterator<Item = Case> {
         expected: Some(case.expected),
         expected_record: None,
     });
-    let schedules = worked::schedules().into_iter().map(|case| Case {
-        name: folder_name(case.name),
+    let schedules = worked_schedules().map(|case| Case {
+        name: folder_name(&case.name),
+        ..case
+    });
+    batches.chain(schedules)
+}
+
+/// The worked schedules; trace and report of their batches are empty.
+pub fn worked_schedules() -> impl Iterator<Item = Case> {
+    worked::schedules().into_iter().map(|case| Case {
+        name: case.name.into(),
         batch: worked::batch(&case.programs, "", ""),
         schedule: case.schedule.into(),
         room_trace: case.room_trace,
         room_report: TEXT_LIMIT,
         expected: None,
         expected_record: Some(case.expected),
-    });
-    batches.chain(schedules)
+    })
 }
 
 fn folder_name(name: &str) -> String {

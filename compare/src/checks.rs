@@ -19,8 +19,9 @@ pub const ALONE: [Check; 3] = [
 #[cfg(all(feature = "proved", not(feature = "record")))]
 pub const AGAINST_PROVED: [Check; 1] = [audits_agree];
 #[cfg(feature = "record")]
-pub const AGAINST_PROVED: [Check; 3] = [
+pub const AGAINST_PROVED: [Check; 4] = [
     audits_agree,
+    what_is_too_short_is_left_alone,
     records_agree,
     what_the_proved_host_writes_is_accepted,
 ];
@@ -185,6 +186,22 @@ static PATTERN: [u8; LONGEST] = {
 #[cfg(feature = "record")]
 fn holds(buffer: &[u8], text: &[u8]) -> bool {
     buffer.starts_with(text) && buffer[text.len()..] == PATTERN[text.len()..buffer.len()]
+}
+
+/// With too little room for the numbers of the result nothing is written anywhere.
+#[cfg(feature = "record")]
+fn what_is_too_short_is_left_alone(case: &Case) -> Option<String> {
+    use crate::proved::{audit_into, record_into, NUMBERS};
+    let before = [7; NUMBERS];
+    let mut numbers = before;
+    let out = &mut numbers[..case.schedule.len() % NUMBERS];
+    let [mut trace, mut report] = [TEXT_LIMIT; 2].map(|room| PATTERN[..room].to_vec());
+    let audited = audit_into(&case.batch, out);
+    let programs = &case.batch.programs;
+    let recorded = record_into(programs, &case.schedule, &mut trace, &mut report, out);
+    let untouched = numbers == before && holds(&trace, b"") && holds(&report, b"");
+    (audited != 0 || recorded != 0 || !untouched)
+        .then(|| format!("{audited} and {recorded} numbers, untouched: {untouched}"))
 }
 
 #[cfg(feature = "record")]

@@ -1,13 +1,14 @@
 //! The stored vectors of crate `vectors`: the files that its program reads, and what it must print by this
 //! implementation.
 //!
-//! A file is one vector after the other. A vector is a header, `NAME=n,n,..` and a line feed, with the length
-//! of each of its texts, and then the texts, with nothing between them. What is printed of it is its name,
-//! `=` and the numbers of the result.
+//! A file is one vector after the other. A vector is a header, `NAME=n,n,..` and a line feed, and then its
+//! texts, with nothing between them. A batch has three numbers, the lengths of its texts; a schedule has four,
+//! the lengths of programs and schedule and of the buffers that are lent for trace and report. What is printed
+//! is the name, `=` and the numbers of the result.
 
 use crate::cases::{self, Case};
-use crate::checks::audit_of;
-use crate::texts::BatchTexts;
+use crate::checks::{audit_of, record_of};
+use crate::texts::{BatchTexts, TEXT_LIMIT};
 use crate::worked;
 use std::fs;
 use std::io;
@@ -15,9 +16,9 @@ use std::path::{Path, PathBuf};
 
 /// The program reads a file whole into a buffer of this length.
 const FILE_LIMIT: usize = 262_144;
-/// So many files of batches; the program names each.
-const BATCH_FILES: usize = 2;
-/// So many random batches of each verdict, none longer than this.
+/// So many files; the program names each.
+const FILES: usize = 3;
+/// So many random batches and schedules of each verdict, none longer than this.
 const OF_EACH: usize = 6;
 const RANDOM_LIMIT: usize = 3_000;
 
@@ -29,9 +30,10 @@ struct Vector {
 
 /// The files below a folder, with what they hold.
 fn files() -> Vec<(PathBuf, Vec<u8>)> {
-    let batches = batch_vectors();
-    let printed: String = batches.iter().map(|vector| &*vector.printed).collect();
-    let mut files = packed("batches", &batches, BATCH_FILES);
+    let mut vectors = batch_vectors();
+    vectors.extend(schedule_vectors());
+    let printed: String = vectors.iter().map(|vector| &*vector.printed).collect();
+    let mut files = packed(&vectors);
     files.push((PathBuf::from("stdout"), printed.into_bytes()));
     files
 }
@@ -53,7 +55,7 @@ pub fn outdated(folder: &Path) -> Option<PathBuf> {
 }
 
 /// The vectors in order, each file as full as it gets.
-fn packed(name: &str, vectors: &[Vector], count: usize) -> Vec<(PathBuf, Vec<u8>)> {
+fn packed(vectors: &[Vector]) -> Vec<(PathBuf, Vec<u8>)> {
     let mut packed = vec![Vec::new()];
     for Vector { stored, .. } in vectors {
         if packed.last().map_or(0, Vec::len) + stored.len() > FILE_LIMIT {
@@ -61,8 +63,8 @@ fn packed(name: &str, vectors: &[Vector], count: usize) -> Vec<(PathBuf, Vec<u8>
         }
         packed.last_mut().expect("one at least").extend(stored);
     }
-    assert_eq!(packed.len(), count, "the program names the files of {name}");
-    let path = |number| PathBuf::from(format!("data/{name}-{number}.txt"));
+    assert_eq!(packed.len(), FILES, "the program names the files");
+    let path = |number| PathBuf::from(format!("data/vectors-{number}.txt"));
     (1..).map(path).zip(packed).collect()
 }
 
@@ -104,6 +106,68 @@ fn batch_vector(name: &str, batch: &BatchTexts) -> Vector {
         stored: [line(name, &lengths).as_bytes(), programs, trace, report].concat(),
         printed: line(name, &results),
     }
+}
+
+fn schedule_vectors() -> Vec<Vector> {
+    let worked = cases::worked_schedules().chain(case_c_in_rooms());
+    let random = random_of_each(
+        |case| record_of(case).verdict,
+        |case| case.batch.programs.len() + case.schedule.len(),
+    );
+    worked
+        .chain(random)
+        .map(|case| schedule_vector(&case))
+        .collect()
+}
+
+/// The schedule of case C with buffers that are just too short, just long enough and a byte longer.
+fn case_c_in_rooms() -> impl Iterator<Item = Case> {
+    let c = worked::case_c();
+    let needed = (c.trace.len(), c.report.len());
+    let rooms = [0, 1, 2]
+        .into_iter()
+        .flat_map(|more| [(more, 1), (1, more)]);
+    rooms.map(move |(trace, report)| Case {
+        name: format!("C with {trace} and {report} bytes more than one too few"),
+        batch: c.clone(),
+        schedule: worked::SCHEDULE_OF_C.to_vec(),
+        room_trace: needed.0 + trace - 1,
+        room_report: needed.1 + report - 1,
+        expected: None,
+        expected_record: None,
+    })
+}
+
+fn schedule_vector(case: &Case) -> Vector {
+    let recorded = record_of(case);
+    let (programs, schedule) = (&case.batch.programs, &case.schedule);
+    let lengths = [
+        programs.len(),
+        schedule.len(),
+        case.room_trace,
+        case.room_report,
+    ];
+    let results = [
+        recorded.verdict,
+        recorded.line as u64,
+        recorded.trace.len() as u64,
+        recorded.report.len() as u64,
+        sum_over(&recorded.trace, 254),
+        sum_over(&recorded.report, 255),
+    ];
+    let header = line(&case.name, &lengths.map(|length| length as u64));
+    Vector {
+        stored: [header.as_bytes(), programs, schedule].concat(),
+        printed: line(&case.name, &results),
+    }
+}
+
+/// A sum over a buffer of so many bytes that held this one everywhere, after a text was written to its front.
+fn sum_over(text: &[u8], before: u8) -> u64 {
+    let mut buffer = vec![before; TEXT_LIMIT + 1];
+    buffer[..text.len()].copy_from_slice(text);
+    let add = |sum, byte: &u8| (sum * 257 + u64::from(*byte)) % 4_294_967_291;
+    buffer.iter().fold(0, add)
 }
 
 fn line(name: &str, numbers: &[u64]) -> String {

@@ -1,2 +1,3 @@
 -- The definitions.
 pub mod Headers
+pub mod Sums

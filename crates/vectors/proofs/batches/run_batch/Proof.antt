@@ -1,9 +1,9 @@
 -- `run_batch` meets its contract: name and header end within the file, so the texts are parts of it.
-use Rattle.vectors.proofs.Bounds.{ends-within}
 use native.Mathlib.Omega.{arith}
+use Rattle.vectors.proofs.Bounds.{ends-within}
 use borrow.Author.Needs.{needs}
-use Rattle.vectors.proofs.run_batch.Statement.{statement}
-use Rattle.vectors.proofs.run_batch.Tie as tie
+use Rattle.vectors.proofs.batches.run_batch.Statement.{statement}
+use Rattle.vectors.proofs.batches.run_batch.Tie as tie
 
 sub-audit : tie.Need-sub-audit
 sub-audit c = omega (arith, ends-within _ (c .before .before .before .before .before .before .read-header .ensures) (c .before .before .before .before .name .given .1))
@@ -11,8 +11,8 @@ sub-audit c = omega (arith, ends-within _ (c .before .before .before .before .be
 part-audit-start : tie.Need-part-audit-start
 part-audit-start c = omega (arith, ends-within _ (c .before .before .before .before .before .before .read-header .ensures) (c .before .before .before .before .name .given .1))
 
-part-print-end : tie.Need-part-print-end
-part-print-end c = omega (arith, ends-within _ (c .before .before .before .before .before .before .before .before .before .before .read-header .ensures) (c .before .before .before .before .before .before .before .before .name .given .1))
+part-print-line-end : tie.Need-part-print-line-end
+part-print-line-end c = omega (arith, ends-within _ (c .before .before .before .before .before .before .before .before .before .before .read-header .ensures) (c .before .before .before .before .before .before .before .before .name .given .1))
 
 pub run-batch-spec : {M : Type 1} → statement M
 run-batch-spec =
@@ -21,8 +21,6 @@ run-batch-spec =
     (λ c κs. search needs)
     (λ c. search needs)
     (λ c. search needs)
-    (λ c. search needs)
-    (λ c κs. search needs)
     (λ c. search needs)
     (λ c. search needs)
     (λ c κs. search needs)
@@ -42,6 +40,6 @@ run-batch-spec =
     (λ c κs. search needs)
     (λ c. search needs)
     (λ c. search needs)
-    part-print-end
+    part-print-line-end
     (λ c κs. search needs)
     (λ c. search needs))

@@ -1,0 +1,48 @@
+-- `run_schedule` meets its contract: name and header end within the file, so the texts are parts of it.
+use native.Mathlib.Omega.{arith}
+use Rattle.vectors.proofs.Bounds.{ends-within}
+use borrow.Author.Needs.{needs}
+use Rattle.vectors.proofs.schedules.run_schedule.Statement.{statement}
+use Rattle.vectors.proofs.schedules.run_schedule.Tie as tie
+
+sub-run-lent : tie.Need-sub-run-lent
+sub-run-lent c = omega (arith, ends-within _ (c .before .before .before .before .before .read-header .ensures) (c .before .before .before .name .given .1))
+
+part-run-lent-start : tie.Need-part-run-lent-start
+part-run-lent-start c = omega (arith, ends-within _ (c .before .before .before .before .before .read-header .ensures) (c .before .before .before .name .given .1))
+
+part-print-line-end : tie.Need-part-print-line-end
+part-print-line-end c = omega (arith, ends-within _ (c .before .before .before .before .before .before .before .before .before .before .before .before .before .before .before .before .read-header .ensures) (c .before .before .before .before .before .before .before .before .before .before .before .before .before .before .name .given .1))
+
+pub run-schedule-spec : {M : Type 1} → statement M
+run-schedule-spec =
+    tie.close
+    (tie.spec
+    (λ c κs. search needs)
+    (λ c. search needs)
+    (λ c. search needs)
+    (λ c. search needs)
+    (λ c. search needs)
+    (λ c κs. search needs)
+    (λ c. search needs)
+    (λ c κs. search needs)
+    (λ c. search needs)
+    (λ c. search needs)
+    sub-run-lent
+    part-run-lent-start
+    (λ c. search needs)
+    (λ c. search needs)
+    (λ c. search needs)
+    (λ c. search needs)
+    (λ c. search needs)
+    (λ c. search needs)
+    (λ c κs. search needs)
+    (λ c. search needs)
+    (λ c κs. search needs)
+    (λ c. search needs)
+    (λ c κs. search needs)
+    (λ c. search needs)
+    (λ c. search needs)
+    part-print-line-end
+    (λ c κs. search needs)
+    (λ c. search needs))
