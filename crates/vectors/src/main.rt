@@ -1,9 +1,9 @@
 // Runs stored vectors through the proved audit and the proved host, and prints a line for each. The vectors, in data/, and what must be
 // printed, the file stdout, are made by the other implementation (`tools/compare --write-vectors`).
 //
-// A file of vectors is one vector after the other. A vector is a header and its texts. The header is a name that ends in '=', numbers parted
-// by commas, and a line feed. A batch has three numbers, the lengths of programs, trace and report; a schedule has four, the lengths of
-// programs and schedule and of the buffers that are lent for trace and report. The texts follow with nothing between them.
+// A file of vectors is one vector after the other. A vector is a header and its texts. The header is a name that ends in '=', numbers
+// parted by commas, and a line feed. A batch has three numbers, the lengths of programs, trace and report; a schedule has four, the lengths
+// of programs and schedule and of the buffers that are lent for trace and report. The texts follow with nothing between them.
 mod batches;
 mod containers;
 mod schedules;

@@ -6,13 +6,19 @@ use Rattle.vectors.proofs.batches.run_batch.Statement.{statement}
 use Rattle.vectors.proofs.batches.run_batch.Tie as tie
 
 sub-audit : tie.Need-sub-audit
-sub-audit c = omega (arith, ends-within _ (c .before .before .before .before .before .before .read-header .ensures) (c .before .before .before .before .name .given .1))
+sub-audit c =
+    let h = c .before .before .before .before in
+    omega (arith, ends-within _ (h .before .before .read-header .ensures) (h .name .given .1))
 
 part-audit-start : tie.Need-part-audit-start
-part-audit-start c = omega (arith, ends-within _ (c .before .before .before .before .before .before .read-header .ensures) (c .before .before .before .before .name .given .1))
+part-audit-start c =
+    let h = c .before .before .before .before in
+    omega (arith, ends-within _ (h .before .before .read-header .ensures) (h .name .given .1))
 
 part-print-line-end : tie.Need-part-print-line-end
-part-print-line-end c = omega (arith, ends-within _ (c .before .before .before .before .before .before .before .before .before .before .read-header .ensures) (c .before .before .before .before .before .before .before .before .name .given .1))
+part-print-line-end c =
+    let h = c .before .before .before .before .before .before .before .before in
+    omega (arith, ends-within _ (h .before .before .read-header .ensures) (h .name .given .1))
 
 pub run-batch-spec : {M : Type 1} → statement M
 run-batch-spec =

@@ -6,13 +6,19 @@ use Rattle.vectors.proofs.schedules.run_schedule.Statement.{statement}
 use Rattle.vectors.proofs.schedules.run_schedule.Tie as tie
 
 sub-run-lent : tie.Need-sub-run-lent
-sub-run-lent c = omega (arith, ends-within _ (c .before .before .before .before .before .read-header .ensures) (c .before .before .before .name .given .1))
+sub-run-lent c =
+    let h = c .before .before .before in
+    omega (arith, ends-within _ (h .before .before .read-header .ensures) (h .name .given .1))
 
 part-run-lent-start : tie.Need-part-run-lent-start
-part-run-lent-start c = omega (arith, ends-within _ (c .before .before .before .before .before .read-header .ensures) (c .before .before .before .name .given .1))
+part-run-lent-start c =
+    let h = c .before .before .before in
+    omega (arith, ends-within _ (h .before .before .read-header .ensures) (h .name .given .1))
 
 part-print-line-end : tie.Need-part-print-line-end
-part-print-line-end c = omega (arith, ends-within _ (c .before .before .before .before .before .before .before .before .before .before .before .before .before .before .before .before .read-header .ensures) (c .before .before .before .before .before .before .before .before .before .before .before .before .before .before .name .given .1))
+part-print-line-end c =
+    let h = c .before .before .before .before .before .before .before .before .before .before .before .before .before .before in
+    omega (arith, ends-within _ (h .before .before .read-header .ensures) (h .name .given .1))
 
 pub run-schedule-spec : {M : Type 1} → statement M
 run-schedule-spec =
