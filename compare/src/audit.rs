@@ -3,11 +3,11 @@
 //! Each check hands on what the next ones need, so their order in `checked` is the order of the verdicts.
 
 use crate::machine::{broken_rule, Objects, Operation, Path, Pause, Running};
+use crate::maps::Map;
 use crate::texts::{
     read_programs, read_report, read_trace, Event, LogLine, OfLine, Program, Report, Request,
     Response, Unreadable,
 };
-use std::collections::HashMap;
 
 /// A refusal: its verdict and the line that it names.
 #[derive(Clone, Copy, Debug, PartialEq, Eq)]
@@ -98,8 +98,8 @@ pub fn checked_programs(text: &[u8]) -> Result<Vec<Program>, Fault> {
 
 /// Row 4: faults of lines first, then the earliest request that was never answered.
 fn answered_requests(trace: &[Event], programs: usize) -> Result<Vec<(Request, Response)>, Fault> {
-    let mut requests: HashMap<u64, Request> = HashMap::new();
-    let mut responses: HashMap<u64, Response> = HashMap::new();
+    let mut requests: Map<u64, Request> = Map::default();
+    let mut responses: Map<u64, Response> = Map::default();
     for (line, event) in (1..).zip(trace) {
         let faulty = match event {
             Event::Request(request) => {
@@ -140,12 +140,12 @@ fn one_of_line_per_request(of: &[OfLine], requests: &[(Request, Response)]) -> R
 }
 
 /// For each rid and number the place of the log line that claims this operation.
-type Claims = HashMap<(u64, u64), usize>;
+type Claims = Map<(u64, u64), usize>;
 
 /// Row 7.
 fn claims(report: &Report) -> Result<Claims, Fault> {
-    let counts: HashMap<u64, u64> = report.of.iter().map(|of| (of.rid, of.count)).collect();
-    let mut claims = Claims::new();
+    let counts: Map<u64, u64> = report.of.iter().map(|of| (of.rid, of.count)).collect();
+    let mut claims = Claims::default();
     for (index, line) in report.log.iter().enumerate() {
         let within_count = counts
             .get(&line.rid)
@@ -257,7 +257,7 @@ impl Graph {
 /// Rows 10, 11 and 12, request by request in arrival order.
 fn replay_all(batch: &Batch, claims: &Claims) -> Result<(), Fault> {
     let answers = answers(&batch.report.log);
-    let mut first_paths: HashMap<u64, Path> = HashMap::new();
+    let mut first_paths: Map<u64, Path> = Map::default();
     for (index, (request, response)) in batch.requests.iter().enumerate() {
         let line = index + 1;
         let of = &batch.report.of[index];

@@ -1,7 +1,7 @@
 //! The cases of a comparison, each made from its number and a seed.
 
 use crate::audit::Audited;
-use crate::damage::{damage_batch, damage_text};
+use crate::damage::{damage_batch, damage_schedule};
 use crate::random::{self, Random, Run};
 use crate::texts::{BatchTexts, TEXT_LIMIT};
 use crate::worked;
@@ -20,40 +20,71 @@ pub struct Case {
     pub room_report: usize,
     /// The audit's result, where the paper gives it.
     pub expected: Option<Audited>,
+    /// The host's verdict and line, where the paper gives them.
+    pub expected_record: Option<(u64, usize)>,
 }
 
 /// So many cases: the worked ones, then half of them from the fixed seed and the rest from this one.
 pub fn cases(count: usize, seed: u64) -> impl Iterator<Item = Case> {
-    let fixed = (0..count.div_ceil(2) as u64).map(|number| random_case(FIXED_SEED, number));
     let varied = (0..).map(move |number| random_case(seed, number));
-    worked_cases().chain(fixed).chain(varied).take(count)
+    worked_cases()
+        .chain(fixed(count.div_ceil(2)))
+        .chain(varied)
+        .take(count)
+}
+
+/// So many cases from the fixed seed.
+pub fn fixed(count: usize) -> impl Iterator<Item = Case> {
+    (0..count as u64).map(|number| random_case(FIXED_SEED, number))
 }
 
 fn worked_cases() -> impl Iterator<Item = Case> {
-    worked::batches().into_iter().map(|case| Case {
-        name: case.name.replace([' ', ','], "-"),
+    let batches = worked::batches().into_iter().map(|case| Case {
+        name: folder_name(case.name),
         batch: case.batch,
         schedule: worked::SCHEDULE_OF_C.to_vec(),
         room_trace: TEXT_LIMIT,
         room_report: TEXT_LIMIT,
         expected: Some(case.expected),
+        expected_record: None,
+    });
+    let schedules = worked_schedules().map(|case| Case {
+        name: folder_name(&case.name),
+        ..case
+    });
+    batches.chain(schedules)
+}
+
+/// The worked schedules; trace and report of their batches are empty.
+pub fn worked_schedules() -> impl Iterator<Item = Case> {
+    worked::schedules().into_iter().map(|case| Case {
+        name: case.name.into(),
+        batch: worked::batch(&case.programs, "", ""),
+        schedule: case.schedule.into(),
+        room_trace: case.room_trace,
+        room_report: TEXT_LIMIT,
+        expected: None,
+        expected_record: Some(case.expected),
     })
+}
+
+fn folder_name(name: &str) -> String {
+    name.replace([' ', ','], "-")
 }
 
 fn random_case(seed: u64, number: u64) -> Case {
     let mut random = Random::new(Random::new(seed).next() ^ number);
     let size = random::size(&mut random);
-    let Run {
-        mut schedule,
-        mut batch,
-    } = random::run(&mut random, size);
+    let run = random::run(&mut random, size);
+    let mut schedule = random::schedule_over(&mut random, &run, size);
+    let Run { mut batch, .. } = run;
     let room_trace = room(&mut random, batch.trace.len());
     let room_report = room(&mut random, batch.report.len());
     if random.percent(85) {
         damage_batch(&mut random, &mut batch);
     }
-    if random.percent(50) {
-        damage_text(&mut random, &mut schedule);
+    if random.percent(40) {
+        damage_schedule(&mut random, &mut schedule);
     }
     Case {
         name: format!("seed-{seed}-case-{number}"),
@@ -62,6 +93,7 @@ fn random_case(seed: u64, number: u64) -> Case {
         room_trace,
         room_report,
         expected: None,
+        expected_record: None,
     }
 }
 

@@ -6,8 +6,8 @@
 
 use crate::random::{interleave, Random};
 use crate::texts::{
-    read_report, read_trace, write_report, write_trace, BatchTexts, Event, Report, Response,
-    LOG_LIMIT, REQUEST_LIMIT, TEXT_LIMIT,
+    read_report, read_schedule, read_trace, write_report, write_schedule, write_trace, BatchTexts,
+    Entry, Event, LogLine, Report, Request, Response, LOG_LIMIT, REQUEST_LIMIT, TEXT_LIMIT,
 };
 
 /// Numbers at the ends of the ranges, and some that no text can hold.
@@ -77,18 +77,77 @@ pub fn damage_text(random: &mut Random, text: &mut Vec<u8>) {
     }
 }
 
+/// Damages a schedule: as any text, or so that it stays readable.
+pub fn damage_schedule(random: &mut Random, text: &mut Vec<u8>) {
+    let Ok(mut entries) = read_schedule(text) else {
+        return damage_text(random, text);
+    };
+    let place = random.below(entries.len() + 1);
+    match random.below(10) {
+        0 => change_program(random, &mut entries),
+        1 => entries.insert(place, Entry::Turn(random.below(8) as u64)),
+        2 => repeat_arrival(random, &mut entries),
+        3 => fill_arrivals(random, &mut entries),
+        _ => return damage_text(random, text),
+    }
+    *text = write_schedule(&entries);
+}
+
+/// Lets a request ask for any program, known or not.
+fn change_program(random: &mut Random, entries: &mut [Entry]) {
+    let choices: [u64; 6] = [0, 1, 2, 3, 16, u64::MAX];
+    let mut arrivals: Vec<&mut Request> = entries.iter_mut().filter_map(arrival).collect();
+    if !arrivals.is_empty() {
+        let place = random.below(arrivals.len());
+        arrivals[place].program = *random.pick(&choices);
+    }
+}
+
+fn arrival(entry: &mut Entry) -> Option<&mut Request> {
+    match entry {
+        Entry::Arrive(request) => Some(request),
+        Entry::Turn(_) => None,
+    }
+}
+
+/// Lets a request arrive a second time, with other inputs perhaps.
+fn repeat_arrival(random: &mut Random, entries: &mut Vec<Entry>) {
+    let arrivals: Vec<Request> = entries.iter_mut().filter_map(arrival).map(|r| *r).collect();
+    if !arrivals.is_empty() {
+        let mut again = *random.pick(&arrivals);
+        again.a = random.below(2) as u64;
+        let place = random.below(entries.len() + 1);
+        entries.insert(place, Entry::Arrive(again));
+    }
+}
+
+/// Brings the arrivals to their limit or beside it, and gives the new ones turns that short programs need.
+fn fill_arrivals(random: &mut Random, entries: &mut Vec<Entry>) {
+    let arrivals = entries.iter_mut().filter_map(arrival).count();
+    let wanted = random.between(REQUEST_LIMIT - 1, REQUEST_LIMIT + 1);
+    for rid in (1_000..).take(wanted.saturating_sub(arrivals)) {
+        entries.push(Entry::Arrive(Request {
+            rid,
+            program: 0,
+            a: 1,
+            b: rid,
+        }));
+        entries.extend([Entry::Turn(rid); 6]);
+    }
+}
+
 /// Damages a report so that it often stays readable; another report where it cannot be read.
 fn damage_report(random: &mut Random, text: &mut Vec<u8>) {
     let Ok(mut report) = read_report(text) else {
         return damage_text(random, text);
     };
-    match random.below(15) {
+    match random.below(18) {
         0..=3 => exchange_in_log(random, &mut report),
         4 => report = interleave(random, &report),
         5..=6 => join_groups(random, &mut report),
         7 => change_count(random, &mut report),
         8 => renumber(random, &mut report),
-        9..=10 => misstate_feeding_line(random, &mut report),
+        9..=13 => misstate_write(random, &mut report),
         _ => change_log_line(random, &mut report),
     }
     *text = write_report(&report);
@@ -290,27 +349,33 @@ fn renumber(random: &mut Random, report: &mut Report) {
     (report.log[other].rid, report.log[other].num) = claim;
 }
 
-/// Changes key or kind of a line that stands right above one of an earlier request in its object's log: what
-/// the earlier request reads then depends on whether the line still counts as a write, and it is looked at
-/// before the fault of the line itself.
-fn misstate_feeding_line(random: &mut Random, report: &mut Report) {
-    let arrival = |rid| report.of.iter().position(|of| of.rid == rid);
-    let feeds = |&place: &usize| {
-        let upper = &report.log[place];
-        let mut below = report.log[place + 1..].iter();
-        let lower = below.find(|line| line.object == upper.object);
-        lower.is_some_and(|lower| arrival(lower.rid) < arrival(upper.rid))
-    };
+/// Gives a key to a register's write, or a write another kind, where a request that arrived earlier reads it.
+/// What that request reads then depends on whether the line still counts as a write, and it is looked at
+/// before the request whose line is misstated.
+fn misstate_write(random: &mut Random, report: &mut Report) {
+    let feeds = |&place: &usize| read_by_earlier(report, place);
     let places: Vec<usize> = (0..report.log.len()).filter(feeds).collect();
     if places.is_empty() {
-        return;
+        return change_log_line(random, report);
     }
     let line = &mut report.log[*random.pick(&places)];
-    if random.percent(50) {
+    if line.kind == 7 && random.percent(50) {
         line.key = random.between(1, 3) as u64;
     } else {
-        line.kind = random.between(6, 9) as u64;
+        line.kind = *random.pick(&[7, 9, 16 - line.kind, 16 - line.kind]);
     }
+}
+
+/// Whether the log line at this place is a write, and the next line of its object and key is a read by a
+/// request that arrived earlier.
+fn read_by_earlier(report: &Report, place: usize) -> bool {
+    let write = &report.log[place];
+    let mut below = report.log[place + 1..].iter();
+    let next = below.find(|line| (line.object, line.key) == (write.object, write.key));
+    let arrival = |line: &LogLine| report.of.iter().position(|of| of.rid == line.rid);
+    next.is_some_and(|read| {
+        matches!((write.kind, read.kind), (7, 6) | (9, 8)) && arrival(read) < arrival(write)
+    })
 }
 
 fn change_log_line(random: &mut Random, report: &mut Report) {

@@ -171,16 +171,9 @@ impl<'a> Host<'a> {
 #[cfg(test)]
 mod tests {
     use super::*;
-    use crate::audit::audit;
     use crate::worked;
 
     const ROOM: usize = 65_535;
-
-    fn refusal(programs: &str, schedule: &str) -> (u64, usize) {
-        let result = record(programs.as_bytes(), schedule.as_bytes(), ROOM, ROOM);
-        assert!(result.trace.is_empty() && result.report.is_empty());
-        (result.verdict, result.line)
-    }
 
     #[test]
     fn the_schedule_of_c_writes_c() {
@@ -211,74 +204,26 @@ mod tests {
     }
 
     #[test]
-    fn rows_of_the_host_have_their_lines() {
-        let programs = worked::PROGRAMS;
-        assert_eq!(refusal("do=1,2\n", "turn=1,\n"), (1, 1));
-        assert_eq!(refusal("program=0\ndo=0,8,0,0\n", "turn=1,\n"), (2, 2));
-        assert_eq!(refusal(programs, "turn=1,\n"), (13, 1));
-        assert_eq!(refusal(programs, "turn=1\nturn=1,\n"), (13, 2));
-        assert_eq!(refusal(programs, "turn=1\n"), (14, 1));
-        let arrive = "arrive=1,0,0,0\n";
-        assert_eq!(refusal(programs, arrive), (15, 1));
-        assert_eq!(refusal(programs, &arrive.repeat(2)), (14, 2));
-        assert_eq!(refusal(programs, "arrive=1,2,0,0\n"), (14, 1));
-        assert_eq!(refusal(programs, &format!("{arrive}turn=2\n")), (14, 2));
-        let first_answered = format!("{arrive}arrive=2,0,0,0\nturn=1\nturn=1\nturn=1\n");
-        assert_eq!(refusal(programs, &first_answered), (15, 2));
-    }
-
-    #[test]
-    fn a_turn_after_the_response_does_nothing() {
-        let c = worked::case_c();
-        let more = [worked::SCHEDULE_OF_C, b"turn=1\nturn=2\n"].concat();
-        assert_eq!(record(&c.programs, &more, ROOM, ROOM).trace, c.trace);
+    fn worked_schedules_have_their_verdicts() {
+        for case in worked::schedules() {
+            let (programs, schedule) = (case.programs.as_bytes(), case.schedule.as_bytes());
+            let result = record(programs, schedule, case.room_trace, ROOM);
+            assert_eq!(
+                (result.verdict, result.line),
+                case.expected,
+                "{}",
+                case.name
+            );
+            let refused = result.verdict != 0;
+            assert!(!refused || (result.trace.is_empty() && result.report.is_empty()));
+        }
     }
 
     #[test]
     fn the_loop_program_is_cut_off() {
-        let result = record(
-            worked::LOOP.as_bytes(),
-            b"arrive=1,0,0,0\nturn=1\n",
-            ROOM,
-            ROOM,
-        );
+        let schedule = b"arrive=1,0,0,0\nturn=1\n";
+        let result = record(worked::LOOP.as_bytes(), schedule, ROOM, ROOM);
         assert_eq!(result.trace, b"request=1,0,0,0\nresponse=1,1,0\n");
         assert_eq!(result.report, b"of=1,0,0\n");
-    }
-
-    #[test]
-    fn an_operation_as_256th_instruction_leaves_the_cut_to_the_next_turn() {
-        // One constant, then write and jump in turn: write k is instruction 2k, write 128 the 256th.
-        let programs = "program=0\ndo=1,2,1,0\ndo=7,0,2,0\ndo=5,2,1,0\ndo=0,0,0,0\n";
-        let turns = |n| format!("arrive=1,0,0,0\n{}", "turn=1\n".repeat(n));
-        let count = 128;
-        assert_eq!(refusal(programs, &turns(count)), (15, 1));
-        let result = record(programs.as_bytes(), turns(count + 1).as_bytes(), ROOM, ROOM);
-        assert_eq!(result.verdict, 0);
-        assert!(result
-            .report
-            .starts_with(format!("of=1,0,{count}\n").as_bytes()));
-    }
-
-    #[test]
-    fn the_1025th_operation_is_refused_at_its_turn() {
-        let mut programs = String::from("program=0\n");
-        programs += &"do=7,0,0,0\n".repeat(62);
-        programs += "do=5,0,0,0\ndo=0,0,0,0\n";
-        // Rounds of 62 operations and a jump: 252 instructions make 248 operations, then four more.
-        let mut schedule = String::new();
-        for rid in 1..=4 {
-            schedule += &format!("arrive={rid},0,1,0\n");
-            schedule += &format!("turn={rid}\n").repeat(253);
-        }
-        let result = record(programs.as_bytes(), schedule.as_bytes(), ROOM, ROOM);
-        assert_eq!(result.verdict, 0);
-        let audited = audit(programs.as_bytes(), &result.trace, &result.report);
-        assert_eq!((audited.verdict, audited.operations), (0, 4 * 252));
-        // 16 more operations are allowed, the 17th of a fifth request is not.
-        schedule += "arrive=5,0,1,0\n";
-        schedule += &"turn=5\n".repeat(17);
-        let last = schedule.lines().count();
-        assert_eq!(refusal(&programs, &schedule), (14, last));
     }
 }

@@ -1,8 +1,8 @@
 //! The machine: the rules that programs keep, a request that runs from operation to operation, and the
 //! objects that the operations work on.
 
+use crate::maps::Map;
 use crate::texts::{Instruction, LogLine, Program, Request};
-use std::collections::HashMap;
 
 pub const INSTRUCTIONS_PER_REQUEST: usize = 256;
 const LOCALS: u64 = 8;
@@ -97,7 +97,7 @@ impl Operation {
 /// The contents of registers and stores; what was never written is 0.
 #[derive(Clone, Debug, Default)]
 pub struct Objects {
-    cells: HashMap<(u64, u64), u64>,
+    cells: Map<(u64, u64), u64>,
 }
 
 impl Objects {

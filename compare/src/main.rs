@@ -2,17 +2,21 @@
 //! scope paper alone, and the proved one, linked as a static library.
 
 mod audit;
+#[cfg(feature = "proved")]
+mod bench;
 mod cases;
 mod checks;
 mod damage;
 mod host;
 mod machine;
+mod maps;
 mod plain;
 #[cfg(feature = "proved")]
 mod proved;
 mod random;
 mod reduce;
 mod texts;
+mod vectors;
 mod worked;
 
 use cases::Case;
@@ -23,44 +27,74 @@ use std::process::ExitCode;
 use std::time::{SystemTime, UNIX_EPOCH};
 
 const HELP: &str = "\
-usage: compare [--alone] [--cases N] [--seed S] [--out DIR]
+usage: compare [--alone] [--cases N] [--seed S] [--out DIR] [--vectors DIR]
+       compare bench
+       compare vectors DIR
 
 Runs N cases (10000 if not given): the worked ones, then half from a fixed seed and the rest from seed S
 (taken from the clock if not given, and printed). Each case is a batch, honest or damaged, and a schedule.
   --alone    only the checks within this implementation: acceptance against a search of all orders, and
              what the host writes against the audit
   --out DIR  where a difference, reduced, is written (differences)
-The last line is 'N passed, M failed'; the exit status is 0 only where nothing failed.";
+  --vectors DIR  also sees that the stored vectors of crate `vectors` are those that `vectors` writes
+The last line is 'N passed, M failed'; the exit status is 0 only where nothing failed.
+
+bench prints a table of times and, where valgrind is installed, of instructions: the proved functions and
+this implementation on the same inputs. vectors writes the stored vectors and what must be printed of them.";
 
 struct Options {
     alone: bool,
     cases: usize,
     seed: u64,
     out: PathBuf,
+    vectors: Option<PathBuf>,
 }
 
 fn main() -> ExitCode {
-    if std::env::args().any(|argument| argument == "--help") {
+    let arguments: Vec<String> = std::env::args().skip(1).collect();
+    if arguments.iter().any(|argument| argument == "--help") {
         println!("{HELP}");
         return ExitCode::SUCCESS;
     }
-    match options().and_then(|options| Ok((checks(&options)?, options))) {
-        Ok((checks, options)) => compare(&checks, &options),
-        Err(problem) => {
-            eprintln!("compare: {problem} (--help says how it is called)");
-            ExitCode::from(2)
+    let done = match arguments.split_first() {
+        Some((first, rest)) if first == "bench" => bench(rest).map(|()| ExitCode::SUCCESS),
+        Some((first, rest)) if first == "vectors" => {
+            write_vectors(rest).map(|()| ExitCode::SUCCESS)
         }
-    }
+        _ => options(arguments).and_then(|options| Ok(compare(&checks(&options)?, &options))),
+    };
+    done.unwrap_or_else(|problem| {
+        eprintln!("compare: {problem} (--help says how it is called)");
+        ExitCode::from(2)
+    })
 }
 
-fn options() -> Result<Options, String> {
+fn write_vectors(arguments: &[String]) -> Result<(), String> {
+    let [folder] = arguments else {
+        return Err("vectors takes one folder".into());
+    };
+    vectors::write(Path::new(folder)).map_err(|problem| format!("{folder}: {problem}"))
+}
+
+#[cfg(feature = "proved")]
+fn bench(arguments: &[String]) -> Result<(), String> {
+    bench::run(arguments)
+}
+
+#[cfg(not(feature = "proved"))]
+fn bench(_: &[String]) -> Result<(), String> {
+    Err("built without the proved functions: there is nothing to measure against".into())
+}
+
+fn options(arguments: Vec<String>) -> Result<Options, String> {
     let mut options = Options {
         alone: false,
         cases: 10_000,
         seed: seed_of_the_clock(),
         out: PathBuf::from("differences"),
+        vectors: None,
     };
-    let mut arguments = std::env::args().skip(1);
+    let mut arguments = arguments.into_iter();
     while let Some(argument) = arguments.next() {
         let mut value = || arguments.next().ok_or(format!("{argument} needs a value"));
         match argument.as_str() {
@@ -68,6 +102,7 @@ fn options() -> Result<Options, String> {
             "--cases" => options.cases = number(&value()?)?,
             "--seed" => options.seed = number(&value()?)?,
             "--out" => options.out = PathBuf::from(value()?),
+            "--vectors" => options.vectors = Some(PathBuf::from(value()?)),
             _ => return Err(format!("{argument} is not known")),
         }
     }
@@ -162,6 +197,18 @@ fn compare(checks: &[Check], options: &Options) -> ExitCode {
         }
     }
     tally.print();
+    if let Some(folder) = &options.vectors {
+        match vectors::outdated(folder) {
+            None => passed += 1,
+            Some(file) => {
+                failed += 1;
+                println!(
+                    "{} is not what `vectors` writes",
+                    folder.join(file).display()
+                );
+            }
+        }
+    }
     println!("{passed} passed, {failed} failed");
     if failed == 0 {
         ExitCode::SUCCESS

@@ -6,8 +6,8 @@
 use crate::host::Host;
 use crate::machine::broken_rule;
 use crate::texts::{
-    write_programs, write_report, write_schedule, write_trace, BatchTexts, Entry, Instruction,
-    Program, Report, Request,
+    read_programs, read_schedule, write_programs, write_report, write_schedule, write_trace,
+    BatchTexts, Entry, Instruction, Program, Report, Request,
 };
 
 /// A generator of numbers from a seed (SplitMix64), so that every case can be made again.
@@ -59,8 +59,36 @@ pub struct Size {
     programs: usize,
     instructions: usize,
     requests: usize,
-    /// Loops are the way to a cut and to many operations.
-    jumps: bool,
+    flow: Flow,
+    objects: Objects,
+}
+
+/// What operations go to; one that stands twice is drawn more often.
+#[derive(Clone, Copy)]
+struct Objects {
+    registers: [u64; 4],
+    stores: [u64; 4],
+}
+
+const SOME: Objects = Objects {
+    registers: [0, 0, 1, 7],
+    stores: [8, 8, 9, 15],
+};
+/// All requests meet in one register and one store.
+const FEW: Objects = Objects {
+    registers: [5; 4],
+    stores: [8; 4],
+};
+
+/// How a program goes from instruction to instruction.
+#[derive(Clone, Copy)]
+enum Flow {
+    Straight,
+    /// Jumps to anywhere: some requests are cut off.
+    Jumps,
+    /// One loop of operations that goes on to the cut: an operation may be the 256th instruction, and a few
+    /// requests come to the 1,025th operation.
+    Loop,
 }
 
 /// Few enough items for the search of all orders.
@@ -68,32 +96,49 @@ pub const SMALL: Size = Size {
     programs: 2,
     instructions: 5,
     requests: 3,
-    jumps: false,
+    flow: Flow::Straight,
+    objects: SOME,
 };
 pub const USUAL: Size = Size {
     programs: 4,
     instructions: 10,
     requests: 6,
-    jumps: true,
+    flow: Flow::Jumps,
+    objects: SOME,
 };
 pub const LARGE: Size = Size {
     programs: 16,
     instructions: 64,
     requests: 64,
-    jumps: true,
+    flow: Flow::Jumps,
+    objects: SOME,
+};
+pub const LOOPS: Size = Size {
+    programs: 2,
+    instructions: 20,
+    requests: 6,
+    flow: Flow::Loop,
+    objects: SOME,
 };
 
-/// A size; most batches are small, so that many are run and most faults stand alone.
+/// A size, over some objects or few; most batches are small, so that many are run and most faults stand alone.
 pub fn size(random: &mut Random) -> Size {
-    match random.below(100) {
-        0..=49 => SMALL,
-        50..=96 => USUAL,
+    let size = match random.below(100) {
+        0..=48 => SMALL,
+        49..=94 => USUAL,
+        95..=96 => LOOPS,
         _ => LARGE,
+    };
+    if random.percent(70) {
+        size
+    } else {
+        Size {
+            objects: FEW,
+            ..size
+        }
     }
 }
 
-const REGISTERS: [u64; 4] = [0, 0, 1, 7];
-const STORES: [u64; 4] = [8, 8, 9, 15];
 const VALUES: [u64; 10] = [0, 0, 1, 1, 2, 3, 7, 1 << 63, u64::MAX - 1, u64::MAX];
 
 /// Programs that keep the rules.
@@ -114,13 +159,34 @@ fn program(random: &mut Random, number: u64, size: Size) -> Program {
     };
     let length = random.between(least, size.instructions);
     let mut instructions: Vec<Instruction> = (1..length)
-        .map(|_| instruction(random, length, size.jumps))
+        .map(|_| match size.flow {
+            Flow::Straight => straight(random, size.objects),
+            Flow::Jumps => instruction(random, size.objects, length),
+            Flow::Loop => operation(random, size.objects, 1),
+        })
         .collect();
-    instructions.push(make(0, local(random), 0, 0));
+    if let Flow::Loop = size.flow {
+        // Nothing in the loop changes local 0.
+        instructions.push(make(5, 0, 0, 0));
+    }
+    let reply = reply_local(random, &instructions);
+    instructions.push(make(0, reply, 0, 0));
     Program {
         number,
         line: 0,
         instructions,
+    }
+}
+
+/// Most often what was read last, so that the response depends on other requests.
+fn reply_local(random: &mut Random, instructions: &[Instruction]) -> u64 {
+    let mut reads = instructions
+        .iter()
+        .rev()
+        .filter(|i| matches!(i.code, 6 | 8));
+    match reads.next() {
+        Some(read) if random.percent(70) => read.a,
+        _ => local(random),
     }
 }
 
@@ -141,26 +207,44 @@ fn local(random: &mut Random) -> u64 {
     random.between(0, highest) as u64
 }
 
-fn instruction(random: &mut Random, length: usize, jumps: bool) -> Instruction {
+/// Any instruction of a program of this length.
+fn instruction(random: &mut Random, objects: Objects, length: usize) -> Instruction {
+    match random.below(24) {
+        0 => make(0, local(random), 0, 0),
+        1..=2 => make(5, local(random), random.below(length) as u64, 0),
+        _ => straight(random, objects),
+    }
+}
+
+/// An instruction that the next one follows.
+fn straight(random: &mut Random, objects: Objects) -> Instruction {
     let [x, y, z] = [local(random), local(random), local(random)];
-    let register = *random.pick(&REGISTERS);
-    let store = *random.pick(&STORES);
-    match random.below(if jumps { 24 } else { 22 }) {
-        0 if jumps => make(0, x, 0, 0),
+    match random.below(22) {
         0..=2 => make(1, x, *random.pick(&VALUES), 0),
         3 => make(2, x, y, z),
         4 => make(3, x, y, z),
         5 => make(4, x, y, z),
-        6..=9 => make(6, x, register, 0),
-        10..=13 => make(7, register, x, 0),
-        14..=17 => make(8, x, store, y),
-        18..=21 => make(9, store, x, y),
-        _ => make(5, x, random.below(length) as u64, 0),
+        _ => operation(random, objects, 0),
     }
 }
 
-/// A schedule that keeps the rules, for so many requests at most, and its host at the end of it. Where the
-/// operations run out, or the schedule would get too long, requests are left open.
+/// An operation that reads into no local below this one.
+fn operation(random: &mut Random, objects: Objects, lowest: u64) -> Instruction {
+    let [x, key] = [local(random), local(random)];
+    let register = *random.pick(&objects.registers);
+    let store = *random.pick(&objects.stores);
+    // An input, most often: other locals may still be 0, and a 0 written where 0 was is not seen.
+    let written = *random.pick(&[0, 1, x]);
+    match random.below(4) {
+        0 => make(6, x.max(lowest), register, 0),
+        1 => make(7, register, written, 0),
+        2 => make(8, x.max(lowest), store, key),
+        _ => make(9, store, key, written),
+    }
+}
+
+/// A schedule for so many requests at most, and its host at the end of it. Where the schedule gets too long,
+/// or its last turn is one operation too many, requests are left open.
 pub fn schedule<'a>(
     random: &mut Random,
     programs: &'a [Program],
@@ -171,18 +255,21 @@ pub fn schedule<'a>(
     let mut arrivals = arrivals(random, programs.len(), size);
     // Turns are more likely than arrivals where fewer requests are to run side by side.
     let eagerness = random.between(10, 90);
+    // Where the request that arrived last goes on first, earlier ones read what later ones wrote.
+    let last_first = random.percent(40);
     while entries.len() < 2_000 {
         let open = host.open_rids();
         let arrival = open.is_empty() || random.percent(eagerness);
         let entry = match arrivals.pop_if(|_| arrival) {
             Some(request) => Entry::Arrive(request),
             None if open.is_empty() => break,
+            None if last_first && random.percent(80) => Entry::Turn(open[open.len() - 1]),
             None => Entry::Turn(*random.pick(&open)),
         };
+        entries.push(entry);
         if host.follow(&entry).is_none() {
             break;
         }
-        entries.push(entry);
     }
     (entries, host)
 }
@@ -201,7 +288,11 @@ fn arrivals(random: &mut Random, programs: usize, size: Size) -> Vec<Request> {
         rid,
         program: random.below(programs) as u64,
         a: *random.pick(&VALUES),
-        b: *random.pick(&VALUES),
+        b: if random.percent(50) {
+            10 + rid
+        } else {
+            *random.pick(&VALUES)
+        },
     };
     rids.into_iter().map(&mut request).collect()
 }
@@ -228,6 +319,45 @@ pub fn run(random: &mut Random, size: Size) -> Run {
                 report: write_report(&host.report()),
             },
         };
+    }
+}
+
+/// A schedule over the programs of a run: mostly its own, else that one with turns more or cut short, or
+/// another, which may leave requests open or come to the 1,025th operation.
+pub fn schedule_over(random: &mut Random, run: &Run, size: Size) -> Vec<u8> {
+    let choice = random.below(10);
+    if choice < 5 {
+        return run.schedule.clone();
+    }
+    let mut entries = match choice {
+        5..=6 => read_schedule(&run.schedule).expect("the host followed it"),
+        _ => {
+            let programs = read_programs(&run.batch.programs).expect("the host ran them");
+            schedule(random, &programs, size).0
+        }
+    };
+    match choice {
+        5 => add_turns(random, &mut entries),
+        6 => entries.truncate(random.below(entries.len() + 1)),
+        _ => {}
+    }
+    write_schedule(&entries)
+}
+
+/// Adds turns of requests that have arrived; the request goes on earlier, and its last turns do nothing.
+fn add_turns(random: &mut Random, entries: &mut Vec<Entry>) {
+    for _ in 0..random.between(1, 4) {
+        let place = random.below(entries.len() + 1);
+        let arrived: Vec<u64> = entries[..place]
+            .iter()
+            .filter_map(|entry| match entry {
+                Entry::Arrive(request) => Some(request.rid),
+                Entry::Turn(_) => None,
+            })
+            .collect();
+        if !arrived.is_empty() {
+            entries.insert(place, Entry::Turn(*random.pick(&arrived)));
+        }
     }
 }
 

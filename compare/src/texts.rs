@@ -3,6 +3,8 @@
 //! A text is read whole before anything is asked of what it says, so reading knows forms, ranges and
 //! counts only; which rules a readable text keeps is the matter of `machine` and `audit`.
 
+use std::fmt;
+use std::io::Write;
 use std::ops::RangeInclusive;
 
 pub const TEXT_LIMIT: usize = 65_535;
@@ -195,33 +197,33 @@ pub fn read_schedule(text: &[u8]) -> Result<Vec<Entry>, Unreadable> {
 }
 
 pub fn write_programs(programs: &[Program]) -> Vec<u8> {
-    let mut text = String::new();
+    let mut text = Text::default();
     for program in programs {
-        text += &format!("program={}\n", program.number);
+        text.add(format_args!("program={}\n", program.number));
         for Instruction { code, a, b, c, .. } in &program.instructions {
-            text += &format!("do={code},{a},{b},{c}\n");
+            text.add(format_args!("do={code},{a},{b},{c}\n"));
         }
     }
-    text.into_bytes()
+    text.bytes
 }
 
 pub fn write_trace(trace: &[Event]) -> Vec<u8> {
-    let mut text = String::new();
+    let mut text = Text::default();
     for event in trace {
-        text += &match event {
-            Event::Request(request) => write_request("request", request),
+        match event {
+            Event::Request(request) => text.add_request("request", request),
             Event::Response(Response { rid, status, value }) => {
-                format!("response={rid},{status},{value}\n")
+                text.add(format_args!("response={rid},{status},{value}\n"));
             }
-        };
+        }
     }
-    text.into_bytes()
+    text.bytes
 }
 
 pub fn write_report(report: &Report) -> Vec<u8> {
-    let mut text = String::new();
+    let mut text = Text::default();
     for OfLine { rid, group, count } in &report.of {
-        text += &format!("of={rid},{group},{count}\n");
+        text.add(format_args!("of={rid},{group},{count}\n"));
     }
     for line in &report.log {
         let LogLine {
@@ -232,25 +234,41 @@ pub fn write_report(report: &Report) -> Vec<u8> {
             key,
             value,
         } = line;
-        text += &format!("log={object},{rid},{num},{kind},{key},{value}\n");
+        text.add(format_args!(
+            "log={object},{rid},{num},{kind},{key},{value}\n"
+        ));
     }
-    text.into_bytes()
+    text.bytes
 }
 
 pub fn write_schedule(schedule: &[Entry]) -> Vec<u8> {
-    let mut text = String::new();
+    let mut text = Text::default();
     for entry in schedule {
-        text += &match entry {
-            Entry::Arrive(request) => write_request("arrive", request),
-            Entry::Turn(rid) => format!("turn={rid}\n"),
-        };
+        match entry {
+            Entry::Arrive(request) => text.add_request("arrive", request),
+            Entry::Turn(rid) => text.add(format_args!("turn={rid}\n")),
+        }
     }
-    text.into_bytes()
+    text.bytes
 }
 
-fn write_request(key: &str, request: &Request) -> String {
-    let Request { rid, program, a, b } = request;
-    format!("{key}={rid},{program},{a},{b}\n")
+/// A text that is being written, line after line.
+#[derive(Default)]
+struct Text {
+    bytes: Vec<u8>,
+}
+
+impl Text {
+    fn add(&mut self, line: fmt::Arguments) {
+        self.bytes
+            .write_fmt(line)
+            .expect("a vector takes every byte");
+    }
+
+    fn add_request(&mut self, key: &str, request: &Request) {
+        let Request { rid, program, a, b } = request;
+        self.add(format_args!("{key}={rid},{program},{a},{b}\n"));
+    }
 }
 
 fn read_request(line: &[u8], key: &str) -> Option<Request> {

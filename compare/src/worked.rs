@@ -1,5 +1,8 @@
-//! The batches that the scope paper works out, an example of every row of its table, and the limits, each
-//! with the result that the paper gives.
+//! The batches and schedules that the scope paper works out, an example of every row of its table, and the
+//! limits, each with the result that the paper gives.
+
+mod limits;
+mod schedules;
 
 use crate::audit::Audited;
 use crate::texts::BatchTexts;
@@ -13,6 +16,8 @@ pub const SCHEDULE_OF_C: &[u8] =
 const TRACE_OF_C: &str = "request=1,0,0,0\nrequest=2,1,0,0\nresponse=1,0,1\nresponse=2,0,1\n";
 const REPORT_OF_C: &str = "of=1,0,2\nof=2,1,2\n\
                            log=0,1,1,7,0,1\nlog=0,2,2,6,0,0\nlog=1,2,1,7,0,1\nlog=1,1,2,6,0,0\n";
+
+pub use schedules::schedules;
 
 pub struct Case {
     pub name: &'static str,
@@ -37,7 +42,7 @@ pub fn batches() -> Vec<Case> {
     let mut cases = worked();
     cases.extend(rows());
     cases.extend(readings());
-    cases.extend(limits());
+    cases.extend(limits::limits());
     cases
 }
 
@@ -276,62 +281,4 @@ fn readings() -> Vec<Case> {
             1,
         ),
     ]
-}
-
-fn limits() -> Vec<Case> {
-    vec![
-        accepted("64 requests", requests(64), 64, 0),
-        refused("65 requests", requests(65), 3, 65),
-        accepted("1,024 log lines", operations(0), 32, 1_024),
-        refused("1,025 log lines", operations(1), 5, 32 + 1_025),
-        accepted("reply as 256th instruction", rounds(126, "0,0"), 1, 0),
-        refused("reply as 257th instruction", rounds(127, "0,0"), 11, 1),
-        accepted("cut off before the 257th", rounds(127, "1,0"), 1, 0),
-        accepted("0 minus 1", minus("18446744073709551615"), 1, 0),
-        refused("0 minus 1 is not 0", minus("0"), 11, 1),
-        refused("2^64 is no number", minus("18446744073709551616"), 3, 2),
-    ]
-}
-
-/// So many requests that reply at once; all arrive before the first is answered.
-fn requests(count: usize) -> BatchTexts {
-    let lines = |write: &dyn Fn(usize) -> String| (0..count).map(write).collect::<String>();
-    let trace = lines(&|rid| format!("request={rid},0,7,0\n"))
-        + &lines(&|rid| format!("response={rid},0,7\n"));
-    let report = lines(&|rid| format!("of={rid},{},0\n", rid.min(63)));
-    batch("program=0\ndo=0,0,0,0\n", &trace, &report)
-}
-
-/// Thirty-two requests one after the other, with 32 writes each in the log of register 0, and so many log
-/// lines more behind them.
-fn operations(more: usize) -> BatchTexts {
-    let programs = format!("program=0\n{}do=0,0,0,0\n", "do=7,0,0,0\n".repeat(32));
-    let (mut trace, mut of, mut log) = (String::new(), String::new(), String::new());
-    for rid in 0..32 {
-        trace += &format!("request={rid},0,{rid},0\nresponse={rid},0,{rid}\n");
-        of += &format!("of={rid},0,32\n");
-        for num in 1..=32 {
-            log += &format!("log=0,{rid},{num},7,0,{rid}\n");
-        }
-    }
-    log += &"log=0,0,1,7,0,0\n".repeat(more);
-    batch(&programs, &trace, &(of + &log))
-}
-
-/// A request that counts down so many rounds: 3 instructions before, 2 for each round, 1 reply.
-fn rounds(count: usize, response: &str) -> BatchTexts {
-    batch(
-        "program=0\ndo=1,2,1,0\ndo=1,3,0,0\ndo=1,3,0,0\ndo=3,0,0,2\ndo=5,0,3,0\ndo=0,0,0,0\n",
-        &format!("request=1,0,{count},0\nresponse=1,{response}\n"),
-        "of=1,0,0\n",
-    )
-}
-
-/// The difference of the inputs 0 and 1, answered with this value.
-fn minus(value: &str) -> BatchTexts {
-    batch(
-        "program=0\ndo=3,2,0,1\ndo=0,2,0,0\n",
-        &format!("request=1,0,0,1\nresponse=1,0,{value}\n"),
-        "of=1,0,0\n",
-    )
 }

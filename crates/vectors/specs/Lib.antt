@@ -1,0 +1,3 @@
+-- The definitions.
+pub mod Headers
+pub mod Sums
