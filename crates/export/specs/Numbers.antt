@@ -1,15 +1,35 @@
--- What the audit leaves in a lent slice of numbers. Assumes nothing.
+-- What the functions leave in the slices that a caller lends. Assumes nothing.
 use Prim.Native.Nat.{ℕ}
 use mathlib.Core.Bool.{cond}
-use mathlib.Core.List.{List}
-use lib.ListN.{length, set}
+use mathlib.Core.List.{List, [], _∷_}
+use mathlib.Core.Path.{_≡_}
 use lib.Dec.{ltb}
+use lib.ListN.{length}
+use Rattle.lines.specs.Put.{front}
+use Rattle.model.specs.Host.{Result}
 use Rattle.verifier.specs.declared.Audited.{Audited}
+use Rattle.host.specs.Recorded.{Texts, resultOf, writtenOf}
+use Rattle.host.specs.declared.Recorded.{Recorded}
 
--- how many numbers are written over s: four, or none where s is too short for them
-unfoldable pub handedCount : List ℕ → ℕ
-handedCount s = cond (ltb (length s) 4) 0 4
+-- x where s has room for the four numbers of a result, else y
+unfoldable pub ifRoom : {A : Type 0} → List ℕ → (x y : A) → A
+ifRoom s x y = cond (ltb (length s) 4) y x
 
--- s with the four numbers of a for its first four; s itself where it is too short for them
-unfoldable pub handed : Audited → List ℕ → List ℕ
-handed a s = cond (ltb (length s) 4) s (set (set (set (set s 0 (a .verdict)) 1 (a .line)) 2 (a .requests)) 3 (a .operations))
+-- s with the four numbers v in front, where it has room for them
+abbrev pub handed : (v s : List ℕ) → List ℕ
+handed v s = ifRoom s (front v s) s
+
+-- the numbers of a result, in the order of its fields
+abbrev pub auditNumbers : Audited → List ℕ
+auditNumbers a = a .verdict ∷ a .line ∷ a .requests ∷ a .operations ∷ []
+
+abbrev pub recordNumbers : Recorded → List ℕ
+recordNumbers r = r .verdict ∷ r .line ∷ r .«trace_len» ∷ r .«report_len» ∷ []
+
+-- the host's result and its texts: in out its numbers, in each buffer its text over the front of what it held, and r numbers in all; where
+-- out is too short everything is as it was
+pub record RecordHanded (x : Result Texts) (trace report out traceAfter reportAfter outAfter : List ℕ) (r : ℕ) : Type 0 where
+  pub count : r ≡ ifRoom out 4 0
+  pub numbers : outAfter ≡ handed (recordNumbers (resultOf x)) out
+  pub traceBytes : traceAfter ≡ ifRoom out (front (writtenOf x .trace) trace) trace
+  pub reportBytes : reportAfter ≡ ifRoom out (front (writtenOf x .report) report) report

@@ -1,7 +1,14 @@
-// The audit for programs in Rust and C. A slice passes as its address and its length, a number as itself.
+// The audit and the reference host for programs in Rust and C. A slice passes as its address and its length, a number as itself.
+mod numbers;
+
+use numbers::fill_four;
 ghost use mathlib.Core.Path.{_≡_};
+ghost use mathlib.Core.Logic.{_↔_};
+ghost use lib.ListN.{getD, length};
+ghost use Rattle.verifier.specs.Accepts.{Accepts};
 ghost use Rattle.verifier.specs.Faults.{auditOf};
-ghost use Rattle.export.specs.Numbers.{handed, handedCount};
+ghost use Rattle.host.specs.Recorded.{recordOf};
+ghost use Rattle.export.specs.Numbers.{ifRoom, handed, auditNumbers, RecordHanded};
 
 // The verdict on three texts: verdict, line, requests and operations to the front of out. The result is how many numbers were
 // written: four, or none where out is too short for them.
@@ -12,16 +19,44 @@ pub extern "C" fn teaselshears_audit(
     report: &[u8],
     out: &mut [u64],
 ) -> usize
-    ensures count { λ r. ⌜ r ≡ handedCount (now (out .entry)) ⌝ }
-    ensures numbers { λ r. ⌜ now (out .exit) ≡ handed (auditOf (now (programs .entry)) (now (trace .entry)) (now (report .entry))) (now (out .entry)) ⌝ }
+    ensures count { λ r. ⌜ r ≡ ifRoom (now (out .entry)) 4 0 ⌝ }
+    ensures numbers { λ _. ⌜ now (out .exit) ≡ handed
+        (auditNumbers (auditOf (now (programs .entry)) (now (trace .entry)) (now (report .entry)))) (now (out .entry)) ⌝ }
+    ensures exactly { λ r. ⌜ ((r ≡ 4) →
+        (getD (now (out .exit)) 0 0 ≡ 0) ↔ Accepts (now (programs .entry)) (now (trace .entry)) (now (report .entry))) ⌝ }
 {
     if out.len() < 4 {
         return 0;
     }
     let a = verifier::audit(programs, trace, report);
-    out[0] = a.verdict;
-    out[1] = a.line;
-    out[2] = a.requests;
-    out[3] = a.operations;
+    fill_four(out, a.verdict, a.line, a.requests, a.operations);
+    4
+}
+
+// The run of a schedule: its trace and its report to the fronts of two buffers, and verdict, line and the two lengths to the front of out.
+// The result is how many numbers were written: four, or none where out is too short for them, and then neither buffer is touched.
+#[no_mangle]
+pub extern "C" fn teaselshears_record(
+    programs: &[u8],
+    schedule: &[u8],
+    trace: &mut [u8],
+    report: &mut [u8],
+    out: &mut [u64],
+) -> usize
+    ensures { λ r. ⌜ RecordHanded
+        (recordOf (now (programs .entry)) (now (schedule .entry)) (length (now (trace .entry))) (length (now (report .entry))))
+        (now (trace .entry)) (now (report .entry)) (now (out .entry)) (now (trace .exit)) (now (report .exit)) (now (out .exit)) r ⌝ }
+{
+    if out.len() < 4 {
+        return 0;
+    }
+    let r = host::record(programs, schedule, trace, report);
+    fill_four(
+        out,
+        r.verdict,
+        r.line,
+        r.trace_len as u64,
+        r.report_len as u64,
+    );
     4
 }

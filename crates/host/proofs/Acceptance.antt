@@ -381,7 +381,8 @@ module _ (programs schedule trace report traceAfter reportAfter : List ℕ) (r :
       record {
         batch = b .from;
         run = b .before;
-        audited = texts-audited programs _ _ t (b .from) (trace-front i) (report-front i) d (batch-accepted programs schedule (b .from) (b .before));
+        audited = texts-audited programs _ _ t (b .from) (trace-front i) (report-front i) d
+            (batch-accepted programs schedule (b .from) (b .before));
       }
 
   pub record-accepted : RecordIs made-of trace report traceAfter reportAfter r → r .verdict ≡ 0 →

@@ -1,40 +1,34 @@
 -- The loop over a schedule, at an arrival: it breaks row 14, or the request opens.
 use Prim.Native.Nat.{ℕ, suc, _+_, _%_, _≤_, _<_, zero}
 use mathlib.Core.Bool.{true, false}
-use mathlib.Core.List.{List, [], _∷_, _++_}
+use mathlib.Core.List.{List, [], _∷_}
 use mathlib.Core.Path.{_≡_, refl, sym, ap, subst, _∙_}
 use native.Mathlib.Nat.{mod-eq-of-lt}
 use native.Mathlib.Omega.{arith}
 use lib.Dec.{ltb}
-use lib.ListN.{length, getD, set}
-use borrow.Author.Tests.{lt-ltb, le-ltb, ltb-true, ltb-false}
-use Rattle.lines.specs.Place.{cells}
-use Rattle.text.specs.Held.{programAt}
+use lib.ListN.{getD, set}
+use borrow.Author.Tests.{lt-ltb, ltb-true, ltb-false}
+use Rattle.text.specs.Held.{programAt, moveAt}
 use Rattle.text.specs.Rows.{row}
 use Rattle.text.specs.declared.programs.Programs.{Programs}
 use Rattle.text.specs.declared.schedule.Move.the-variants.{Arrive}
-use Rattle.text.specs.declared.trace.Event.the-variants.{Request}
 use Rattle.text.proofs.RowLaws.{firsts-length}
-use Rattle.ordering.specs.Lists.{All}
 use Rattle.ordering.proofs.Basics.{clash, byBool, byEq}
-use Rattle.model.specs.Host.{Host, broken, on, fault, arrive, afterArrival, stepped}
+use Rattle.model.specs.Host.{Host, broken, fault, arrive, afterArrival, stepped}
 use Rattle.model.specs.PlainRun.{Phase, absent, opened, closed}
-use Rattle.model.specs.Ranges.{requestsIn, responsesIn, arrivalsIn}
+use Rattle.model.specs.Ranges.{arrivalsIn}
 use Rattle.model.proofs.Faithful.{faithful-arrive}
 use Rattle.model.proofs.Ranges.{responses-few}
 use Rattle.machine.specs.Instance.{known}
 use Rattle.machine.specs.Objects.{atStart}
-use Rattle.machine.specs.Processes.{firstLocals}
-use Rattle.host.specs.Moves.{progress, counts, Arrived, ArriveIs}
-use Rattle.host.specs.Requests.{isOpenIn, stateNumbers}
-use Rattle.host.specs.Runs.{missing, seenRow, seenSlot, M, seen, RequestsIs, RidIn}
+use Rattle.host.specs.Moves.{Arrived, ArriveIs}
+use Rattle.host.specs.Requests.{isOpenIn}
+use Rattle.host.specs.Runs.{missing, seenSlot, M, seen, RidIn, tableIn}
 use Rattle.host.specs.declared.steps.Counts.{Counts}
 use Rattle.host.specs.declared.steps.Step.the-variants.{Broken, On}
 use Rattle.host.specs.declared.steps.Step.{Step}
 use Rattle.host.proofs.EventRows.{event-joins}
 use Rattle.host.proofs.Running.{
-  T,
-  move,
   left,
   whole,
   Running,
@@ -54,53 +48,53 @@ slot-seen states ofs zero n e = n refl
 slot-seen states ofs (suc s) n e =
     byBool (isOpenIn (row 12 states s)) (λ t. let e′ = rw t at e in clash (cc)) (λ t. let e′ = rw t at e in clash (cc))
 
-module _ (ps : Programs) (moves arrivals : List ℕ) (n i : ℕ) (c : Counts) (slots states ofs events logs registers heads befores : List ℕ)
+module _ {ps : Programs} {moves arrivals : List ℕ} {n i : ℕ} {c : Counts} {slots states ofs events logs registers heads befores : List ℕ}
     (g : Running ps moves arrivals n i c slots states ofs events logs registers heads befores) (h : i < n)
-    (r prog a b : ℕ) (e : Arrive r prog a b ≡ move ps moves arrivals n i) where
-  abbrev h₀ : Host (M (T ps moves arrivals n))
+    {r prog a b : ℕ} (e : Arrive r prog a b ≡ moveAt moves arrivals i) where
+  abbrev h₀ : Host (M (tableIn ps))
   h₀ = g .host
 
   rid : r < 65536
-  rid = subst RidIn (sym e) (all-rids ps moves arrivals n i c slots states ofs events logs registers heads befores g h .0)
+  rid = subst RidIn (sym e) (all-rids g h .0)
 
-  more : c .requests + suc (arrivalsIn (left ps moves arrivals n (i + 1))) ≤ 64
+  more : c .requests + suc (arrivalsIn (left moves arrivals n (i + 1))) ≤ 64
   more =
-      subst (λ m. c .requests + arrivalsIn (m ∷ left ps moves arrivals n (i + 1)) ≤ 64) (sym e)
-      (to-come ps moves arrivals n i c slots states ofs events logs registers heads befores g h)
+      subst (λ m. c .requests + arrivalsIn (m ∷ left moves arrivals n (i + 1)) ≤ 64) (sym e)
+      (to-come g h)
 
   pub arrival-room : (c .requests < 64) × (c .events < 128)
   arrival-room =
-      let p = requests-are ps moves arrivals n i c slots states ofs events logs registers heads befores g in
-      let q = events-are ps moves arrivals n i c slots states ofs events logs registers heads befores g in
+      let p = requests-are g in
+      let q = events-are g in
       let f = responses-few (h₀ .trace) (g .faithful .inOrder) in
       (omega (arith, more), omega (arith, more, p, q, f))
 
   slot : r % 65536 ≡ r
   slot = mod-eq-of-lt rid
 
-  step-is : stepped (M (T ps moves arrivals n)) (known (T ps moves arrivals n)) 1024 h₀ (move ps moves arrivals n i)
-      ≡ stepped (M (T ps moves arrivals n)) (known (T ps moves arrivals n)) 1024 h₀ (Arrive r prog a b)
-  step-is = ap (stepped (M (T ps moves arrivals n)) (known (T ps moves arrivals n)) 1024 h₀) (sym e)
+  step-is : stepped (M (tableIn ps)) (known (tableIn ps)) 1024 h₀ (moveAt moves arrivals i)
+      ≡ stepped (M (tableIn ps)) (known (tableIn ps)) 1024 h₀ (Arrive r prog a b)
+  step-is = ap (stepped (M (tableIn ps)) (known (tableIn ps)) 1024 h₀) (sym e)
 
-  not-absent : (f : Phase (M (T ps moves arrivals n))) → (seen (T ps moves arrivals n) f ≡ missing → ⊥) →
-      arrive (M (T ps moves arrivals n)) h₀ r prog a b f ≡ broken
+  not-absent : (f : Phase (M (tableIn ps))) → (seen (tableIn ps) f ≡ missing → ⊥) →
+      arrive (M (tableIn ps)) h₀ r prog a b f ≡ broken
   not-absent absent k = absurd (k refl)
   not-absent (opened p k′) k = refl
   not-absent (closed w k′) k = refl
 
-  module _ (slots′ states′ ofs′ events′ : List ℕ) (x : Step)
+  module _ {slots′ states′ ofs′ events′ : List ℕ} {x : Step}
       (f : ArriveIs (ps .n) c r prog a b slots states ofs events slots′ states′ ofs′ events′ x) where
     pub arrival-breaks : x ≡ Broken → whole ps moves arrivals n ≡ fault 14 (i + 1)
     arrival-breaks d =
-        breaks ps moves arrivals n i c slots states ofs events logs registers heads befores g h
+        breaks g h
         (step-is ∙ byBool (ltb prog (ps .n))
-        (λ t. rw (known-is ps moves arrivals n prog true t)
+        (λ t. rw (known-is ps prog true t)
         (byEq (getD slots r 0) 0
         (λ z _. let y = f .arrives (ltb-true prog (ps .n) t) (ap (λ r. getD slots r 0) slot ∙ z) in
         let w : Broken ≡ On (y .0) = sym d ∙ y .1 in clash (cc))
         (λ z _. not-absent (h₀ .state .phase r)
         (λ w. slot-seen states ofs (getD slots r 0) z (sym (g .requests .phases r rid) ∙ w)))))
-        (λ t. rw (known-is ps moves arrivals n prog false t) refl))
+        (λ t. rw (known-is ps prog false t) refl))
 
     pub arrival-on : (d : Counts) → x ≡ On d →
         Running ps moves arrivals n (i + 1) d slots′ states′ ofs′ events′ logs registers heads befores
@@ -108,7 +102,8 @@ module _ (ps : Programs) (moves arrivals : List ℕ) (n i : ℕ) (c : Counts) (s
         byBool (ltb prog (ps .n))
         (λ t. byEq (getD slots (r % 65536) 0) 0
         (λ z _. let y = f .arrives (ltb-true prog (ps .n) t) z in let w : y .0 ≡ d = cc in
-        at (ltb-true prog (ps .n) t) (ap (λ r. getD slots r 0) (sym slot) ∙ z) (subst (Arrived c r prog a b slots states ofs events slots′ states′ ofs′ events′) w (y .2)))
+        at (ltb-true prog (ps .n) t) (ap (λ r. getD slots r 0) (sym slot) ∙ z)
+        (subst (Arrived c r prog a b slots states ofs events slots′ states′ ofs′ events′) w (y .2)))
         (λ z _. let w : Broken ≡ On d = sym (f .twice (ltb-true prog (ps .n) t) z) ∙ o in clash (cc)))
         (λ t. let w : Broken ≡ On d = sym (f .unknown (ltb-false prog (ps .n) t)) ∙ o in clash (cc))
       where
@@ -116,9 +111,9 @@ module _ (ps : Programs) (moves arrivals : List ℕ) (n i : ℕ) (c : Counts) (s
             Running ps moves arrivals n (i + 1) d slots′ states′ ofs′ events′ logs registers heads befores
         at k new y =
             let new-phase : h₀ .state .phase r ≡ absent =
-            absent-seen (T ps moves arrivals n) (h₀ .state .phase r)
+            absent-seen (tableIn ps) (h₀ .state .phase r)
             (g .requests .phases r rid ∙ ap (seenSlot states ofs) new) in
-            let knows : known (T ps moves arrivals n) prog ≡ true = known-is ps moves arrivals n prog true (lt-ltb prog (ps .n) k) in
+            let knows : known (tableIn ps) prog ≡ true = known-is ps prog true (lt-ltb prog (ps .n) k) in
             let room = arrival-room in
             let s : slots′ ≡ set slots r (c .requests + 1) = y .slot ∙ ap (λ r. set slots r (c .requests + 1)) slot in
             rw (y .counted, s, y .state, y .own, y .event)
@@ -128,19 +123,19 @@ module _ (ps : Programs) (moves arrivals : List ℕ) (n i : ℕ) (c : Counts) (s
               movesRoom = g .movesRoom;
               few = g .few;
               bounded = g .bounded;
-              host = afterArrival (M (T ps moves arrivals n)) h₀ r prog a b;
+              host = afterArrival (M (tableIn ps)) h₀ r prog a b;
               goes =
-                  goes-next ps moves arrivals n i c slots states ofs events logs registers heads befores g h
-                  (afterArrival (M (T ps moves arrivals n)) h₀ r prog a b) (step-is ∙ rw (knows, new-phase) refl);
-              rids = all-rids ps moves arrivals n i c slots states ofs events logs registers heads befores g h .1;
+                  goes-next g h
+                  (afterArrival (M (tableIn ps)) h₀ r prog a b) (step-is ∙ rw (knows, new-phase) refl);
+              rids = all-rids g h .1;
               toCome = omega (arith, more);
               requests =
-                  opens (T ps moves arrivals n) slots states ofs (c .requests) (c .operations) (h₀ .state .phase) (h₀ .trace)
+                  opens (tableIn ps) slots states ofs (c .requests) (c .operations) (h₀ .state .phase) (h₀ .trace)
                   (g .requests) r prog a b rid (omega (arith, k, firsts-length (programAt (ps .table)) (ps .n))) new (room .0);
               events-held = event-joins events (c .events) (h₀ .trace) (0 ∷ r ∷ prog ∷ a ∷ b ∷ []) refl (room .1) (g .events-held);
               lines = g .lines;
               objects = g .objects;
               faithful =
-                  faithful-arrive (M (T ps moves arrivals n)) (known (T ps moves arrivals n)) 16 atStart (h₀ .state) (h₀ .trace)
+                  faithful-arrive (M (tableIn ps)) (known (tableIn ps)) 16 atStart (h₀ .state) (h₀ .trace)
                   r prog a b (g .faithful) new-phase knows;
             })

@@ -1,12 +1,10 @@
 -- At the end of a run: row 15 on the arrays is the model's, and what the arrays hold is the batch that the model's host writes.
-use Prim.Native.Nat.{ℕ, zero, suc, _+_, _%_, _≤_, _<_, min}
+use Prim.Native.Nat.{ℕ, zero, suc, _+_, _≤_, _<_, min}
 use mathlib.Core.Bool.{Bool, true, false}
 use mathlib.Core.List.{List, [], _∷_, _++_}
-use mathlib.Core.Option.{Option}
 use mathlib.Core.Path.{_≡_, refl, sym, ap, _∙_}
 use native.Mathlib.Nat.{mod-eq-of-lt}
 use native.Mathlib.Omega.{arith}
-use lib.Dec.{ltb}
 use lib.ListN.{length, getD}
 use borrow.Author.Tests.{lt-ltb}
 use Rattle.text.specs.Held.{eventAt, ofAt, entryAt}
@@ -21,13 +19,27 @@ use Rattle.text.specs.declared.trace.Event.{Event}
 use Rattle.text.proofs.RowLaws.{firsts-length, firsts-same}
 use Rattle.ordering.specs.Lists.{All}
 use Rattle.ordering.proofs.Basics.{byBool}
-use Rattle.model.specs.Batch.{Batch}
-use Rattle.model.specs.Checks.{firstBad, breaks}
+use Rattle.model.specs.Checks.{firstBad}
 use Rattle.model.specs.Host.{Host, isOpen, bad15, row15, ofsFrom, logsFrom, batchOf}
 use Rattle.model.specs.PlainRun.{State, Phase, absent, opened, closed, operationsOf}
-use Rattle.host.specs.Recorded.{Texts, textsOf}
-use Rattle.host.specs.Requests.{isOpenIn, progressIn, standingIn, waitsIn}
-use Rattle.host.specs.Runs.{Seen, missing, going, over, seenRow, seenSlot, ridsOf, leftOpen, M, seen, RequestsIs, EventsIs, LinesIs, RidIn}
+use Rattle.host.specs.Recorded.{textsOf}
+use Rattle.host.specs.Requests.{isOpenIn, standingIn, waitsIn}
+use Rattle.host.specs.Runs.{
+  Seen,
+  missing,
+  going,
+  over,
+  seenRow,
+  seenSlot,
+  ridsOf,
+  leftOpen,
+  M,
+  seen,
+  RequestsIs,
+  EventsIs,
+  LinesIs,
+  RidIn,
+}
 use Rattle.host.specs.Steps.{heldTexts, linesOf, Sorted}
 use Rattle.host.proofs.Sorting.{lines-few}
 
@@ -138,7 +150,12 @@ module _ (table : List Program) where
 
     pub ofs-are : firsts (ofAt ofs) m ≡ ofsFrom (M table) (s .phase) 0 trace
     ofs-are =
-        firsts-same (ofAt ofs) (λ q. record { rid = ofAt ofs q .rid; group = q; count = operationsOf (M table) (s .phase (ofAt ofs q .rid)) }) m
+        firsts-same (ofAt ofs) (λ q. record {
+          rid = ofAt ofs q .rid;
+          group = q;
+          count = operationsOf (M table)
+              (s .phase (ofAt ofs q .rid));
+        }) m
         of-is
         ∙ sym (ofs-over (s .phase) 0 trace ∙ ap (ofsOver (s .phase) 0) (g .arrived) ∙ ofs-firsts (s .phase) (λ q. ofAt ofs q .rid) m)
 

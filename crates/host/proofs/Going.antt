@@ -29,7 +29,8 @@ module _ (code : List Instr) (l : List ℕ) (at done : ℕ) where
       (record { locals = sym (ap (λ r. r .locals) d) ∙ g .locals; stop = sym (ap (λ r. r .stop) d) ∙ g .stop })
 
   -- the instructions are used up
-  pub used-up : limit ≤ done → (l₀ : List ℕ) (at₀ done₀ : ℕ) → SameEnd (advanceOf limit code l at done) (advanceOf limit code l₀ at₀ done₀) →
+  pub used-up : limit ≤ done → (l₀ : List ℕ) (at₀ done₀ : ℕ) →
+      SameEnd (advanceOf limit code l at done) (advanceOf limit code l₀ at₀ done₀) →
       WentOn code l₀ at₀ done₀ l (stopAt at done Cut)
   used-up h l₀ at₀ done₀ g =
       let d = cut limit code l at done h in

@@ -1,27 +1,23 @@
 -- Laws of the log in order of execution, and of the objects that it leaves: one line more.
 use Prim.Native.Nat.{ℕ, suc, _+_, _*_, _%_, _≤_, _<_}
-use mathlib.Core.Bool.{cond}
 use mathlib.Core.List.{List, [], _∷_, _++_, append-nil}
-use mathlib.Core.Path.{_≡_, refl, sym, ap, subst, _∙_}
+use mathlib.Core.Path.{_≡_, refl, sym, ap, _∙_}
 use native.Mathlib.Nat.{mod-eq-of-lt}
-use native.Mathlib.Numerals.{add-one}
 use native.Mathlib.Omega.{arith}
-use lib.Dec.{eqb}
 use lib.ListN.{length}
 use Rattle.text.specs.Held.{entryAt}
 use Rattle.text.specs.Report.{entryFrom, entryNumbers}
-use Rattle.text.specs.Rows.{row, withRow, firsts}
+use Rattle.text.specs.Rows.{row, firsts}
 use Rattle.text.specs.declared.report.Entry.{Entry}
-use Rattle.text.specs.declared.report.Op.{Op}
 use Rattle.text.proofs.RowLaws.{row-room, row-put, row-before, rows-put, firsts-same}
 use Rattle.ordering.specs.Maps.{upd}
-use Rattle.ordering.proofs.Basics.{byBool, byEq, upd-at, upd-other, eqb-no}
+use Rattle.ordering.proofs.Basics.{byEq, upd-at, upd-other}
 use Rattle.model.specs.Batch.{logOf}
 use Rattle.model.proofs.Report.{log-append}
 use Rattle.machine.specs.Index.{stored, performed, performOf}
 use Rattle.machine.specs.Logs.{ops, after, afterAll}
 use Rattle.machine.specs.Objects.{Content, apply, atStart}
-use Rattle.machine.proofs.Passing.{Indexed, Registers, answerAt, Passed, passed, registers-same, index-same}
+use Rattle.machine.proofs.Passing.{Indexed, Registers, Passed, passed, registers-same, index-same}
 use Rattle.host.specs.Moves.{joined}
 use Rattle.host.specs.Runs.{LinesIs}
 use Rattle.host.specs.Steps.{linesOf}
@@ -109,7 +105,8 @@ module _ (logs : List ℕ) (k : ℕ) (l : Entry) (room : length logs ≡ 6144) (
           held = λ o.
               let object = l .op .object in
               let x = apply (l .op) (contents object) .1 in
-              let more : afterAll atStart (firsts (entryAt logs′) (k + 1)) o ≡ after (afterAll atStart (firsts (entryAt logs) k)) (l .op) o =
+              let more : afterAll atStart (firsts (entryAt logs′) (k + 1)) o ≡ after (afterAll atStart (firsts (entryAt logs) k))
+              (l .op) o =
               ap (λ ls. afterAll atStart ls o) lines-more ∙ after-snoc atStart (firsts (entryAt logs) k) l o in
               byEq object o
               (λ d t. upd-at contents x d ∙ ap (λ c. apply (l .op) c .1) (g .held object) ∙ sym (more ∙ rw t refl))

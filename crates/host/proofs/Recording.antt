@@ -1,11 +1,11 @@
 -- The checks of the reference host in their order: each refusal is that of `recordOf`, and so is what is written.
-use Prim.Native.Nat.{ℕ, _+_, _≤_, _<_, min}
+use Prim.Native.Nat.{ℕ, _≤_, min}
 use mathlib.Core.Bool.{true, false}
 use mathlib.Core.List.{List, [], _∷_}
-use mathlib.Core.Option.{Option, none, some}
+use mathlib.Core.Option.{Option}
 use mathlib.Core.Path.{_≡_, refl, sym, ap, subst, _∙_}
 use native.Mathlib.Omega.{arith}
-use lib.ListN.{length, replicate, length-replicate}
+use lib.ListN.{length, replicate}
 use Rattle.lines.specs.Put.{front}
 use Rattle.text.specs.Held.{linesIn, readIn, moveAt, programAt, programsIn, ProgramsIs, ScheduleIs}
 use Rattle.text.specs.Programs.{readPrograms}
@@ -19,25 +19,13 @@ use Rattle.text.specs.declared.schedule.Move.the-variants.{Arrive, Turn}
 use Rattle.text.specs.declared.schedule.Move.{Move}
 use Rattle.ordering.specs.Lists.{All}
 use Rattle.model.specs.Checks.{firstBad}
-use Rattle.model.specs.Host.{Host, Result, fault, made, row15, close, write, batchOf}
+use Rattle.model.specs.Host.{Result, fault, close, write, batchOf}
 use Rattle.machine.specs.Rules.{rulingOf}
 use Rattle.machine.specs.declared.rules.Ruling.the-variants.{Kept, Broken}
 use Rattle.machine.specs.declared.rules.Ruling.{Ruling}
 use Rattle.verifier.specs.Faults.{brokenLine}
 use Rattle.host.specs.Accepted.{Accepted}
-use Rattle.host.specs.Recorded.{
-  andThen,
-  readAs,
-  ruled,
-  tableOf,
-  runOf,
-  Texts,
-  textsOf,
-  fitted,
-  recordOf,
-  resultOf,
-  RecordIs,
-}
+use Rattle.host.specs.Recorded.{andThen, Texts, textsOf, fitted, recordOf, resultOf, RecordIs}
 use Rattle.host.specs.Recorded as recorded
 use Rattle.host.specs.Runs.{leftOpen, M, RidIn, tableIn, movesIn, ran, recordedMoves, Scheduled, Ready, Finished, RunIs}
 use Rattle.host.specs.Steps.{heldTexts, Sorted}
@@ -47,7 +35,7 @@ use Rattle.host.specs.declared.runs.Run.{Run}
 use Rattle.host.specs.declared.steps.Counts.{Counts}
 use Rattle.host.proofs.Acceptance.{record-accepted}
 use Rattle.host.proofs.Finishing.{row15-is, texts-are}
-use Rattle.host.proofs.Readings.{MoveIn, ScheduleIn, schedule-in}
+use Rattle.host.proofs.Readings.{MoveIn, schedule-in}
 
 -- a refusal writes nothing
 pub refuses : (x : Result Texts) (o p : List ℕ) (verdict line : ℕ) (r : Recorded) → x ≡ fault verdict line →

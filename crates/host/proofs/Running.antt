@@ -1,46 +1,40 @@
 -- The loop over a schedule: the arrays hold the state of the model's host, and what is left of the schedule, run from it, gives what the
 -- whole gives.
-use Prim.Native.Nat.{ℕ, zero, suc, _+_, _-_, _%_, _≤_, _<_}
+use Prim.Native.Nat.{ℕ, zero, suc, _+_, _-_, _≤_, _<_}
 use mathlib.Core.Bool.{Bool, true, false}
 use mathlib.Core.List.{List, [], _∷_, _++_}
 use mathlib.Core.Path.{_≡_, refl, sym, ap, subst, _∙_}
 use mathlib.Core.Logic.{_⊎_, inl, inr}
-use native.Mathlib.Nat.{mod-eq-of-lt}
 use native.Mathlib.Numerals.{add-one}
 use native.Mathlib.Omega.{arith}
-use lib.Dec.{eqb, ltb}
+use lib.Dec.{ltb}
 use lib.ListN.{length, getD, replicate, length-replicate, getD-replicate}
-use borrow.Author.Tests.{lt-ltb, le-ltb, ltb-true, ltb-false}
-use Rattle.text.specs.Held.{noProgram, Bounded, eventAt, ofAt, moveAt}
+use borrow.Author.Tests.{ltb-true, ltb-false}
+use Rattle.text.specs.Held.{noProgram, Bounded, eventAt, moveAt}
 use Rattle.text.specs.Rows.{row, firsts}
 use Rattle.text.specs.declared.programs.Program.{Program}
 use Rattle.text.specs.declared.programs.Programs.{Programs}
-use Rattle.text.specs.declared.schedule.Move.the-variants.{Arrive, Turn}
+use Rattle.text.specs.declared.schedule.Move.the-variants.{Turn}
 use Rattle.text.specs.declared.schedule.Move.{Move}
 use Rattle.text.specs.declared.trace.Event.the-variants.{Request, Response}
 use Rattle.text.specs.declared.trace.Event.{Event}
 use Rattle.text.proofs.RowLaws.{firsts-length}
 use Rattle.ordering.specs.Lists.{All}
-use Rattle.ordering.proofs.Basics.{clash, byBool, byEq}
-use Rattle.model.specs.Host.{Host, empty, Stepped, broken, on, Result, fault, made, goOn, stepped, arrive, afterArrival}
-use Rattle.model.specs.PlainRun.{Phase, absent, opened, closed}
+use Rattle.ordering.proofs.Basics.{clash, byBool}
+use Rattle.model.specs.Host.{Host, empty, broken, on, Result, fault, goOn, stepped}
 use Rattle.model.specs.Ranges.{requestsIn, responsesIn, arrivalsIn}
-use Rattle.model.proofs.Faithful.{hasArrived, isClosed, Faithful, faithful-empty, faithful-arrive, add-response}
-use Rattle.model.proofs.Ranges.{responses-few, requests-append}
+use Rattle.model.proofs.Faithful.{Faithful, faithful-empty}
 use Rattle.machine.specs.Instance.{known}
 use Rattle.machine.specs.Objects.{atStart}
 use Rattle.machine.proofs.Passing.{registers-start, index-start}
 use Rattle.verifier.proofs.Scans.{from, firsts-from, from-next, from-end}
-use Rattle.host.specs.Moves.{counts, Arrived, ArriveIs}
-use Rattle.host.specs.Requests.{isOpenIn, progressIn, standingRow, standingIn}
+use Rattle.host.specs.Moves.{counts}
+use Rattle.host.specs.Requests.{isOpenIn, progressIn, standingIn}
 use Rattle.host.specs.Runs.{
-  missing,
   over,
-  seenRow,
   seenSlot,
   ridsOf,
   M,
-  seen,
   RequestsIs,
   EventsIs,
   LinesIs,
@@ -55,11 +49,7 @@ use Rattle.host.specs.Runs.{
 use Rattle.host.specs.declared.requests.Standing.the-variants.{Missing, Idle, Open}
 use Rattle.host.specs.declared.requests.Standing.{Standing}
 use Rattle.host.specs.declared.steps.Counts.{Counts}
-use Rattle.host.specs.declared.steps.Step.the-variants.{Broken, On}
-use Rattle.host.specs.declared.steps.Step.{Step}
-use Rattle.host.proofs.EventRows.{event-joins}
 use Rattle.host.proofs.LogLines.{ObjectsIs}
-use Rattle.host.proofs.Slots.{absent-seen, closed-seen, opens}
 
 -- ── counts of a trace ──
 events-split : (es : List Event) → length es ≡ requestsIn es + responsesIn es
@@ -109,35 +99,29 @@ turn-below moves arrivals i r e =
     (λ t. let e′ = rw t at e in let z : getD moves i 0 ≡ r = cc in subst (λ r. r < 65536) z (ltb-true (getD moves i 0) 65536 t))
     (λ t. let e′ = rw t at e in clash (cc))
 
+-- the lines of a schedule from line i on, where lines count from 0
+abbrev pub left : (moves arrivals : List ℕ) (n i : ℕ) → List Move
+left moves arrivals n i = from (moveAt moves arrivals) i (n - i)
+
+abbrev pub whole : (ps : Programs) (moves arrivals : List ℕ) (n : ℕ) → Result (Host (M (tableIn ps)))
+whole ps moves arrivals n = ran (tableIn ps) (movesIn moves arrivals n)
+
 module _ (ps : Programs) (moves arrivals : List ℕ) (n : ℕ) where
-  abbrev pub T : List Program
-  T = tableIn ps
-
-  abbrev pub move : ℕ → Move
-  move = moveAt moves arrivals
-
-  -- the lines from line i on (from 0)
-  abbrev pub left : ℕ → List Move
-  left i = from move i (n - i)
-
-  abbrev pub whole : Result (Host (M T))
-  whole = ran T (movesIn moves arrivals n)
-
   pub record Running (i : ℕ) (c : Counts) (slots states ofs events logs registers heads befores : List ℕ) : Type 0 where
     pub within : i ≤ n
     pub scheduled : n ≤ 9362
     pub movesRoom : length moves ≡ 9362
     pub few : ps .n ≤ 16
     pub bounded : (k : ℕ) → k < ps .n → Bounded (getD (ps .table) k noProgram)
-    pub host : Host (M T)
-    pub goes : ranFrom T (suc i) (left i) host ≡ whole
-    pub rids : All RidIn (left i)
-    pub toCome : c .requests + arrivalsIn (left i) ≤ 64
-    pub requests : RequestsIs T slots states ofs (c .requests) (c .operations) (host .state .phase) (host .trace)
+    pub host : Host (M (tableIn ps))
+    pub goes : ranFrom (tableIn ps) (suc i) (left moves arrivals n i) host ≡ whole ps moves arrivals n
+    pub rids : All RidIn (left moves arrivals n i)
+    pub toCome : c .requests + arrivalsIn (left moves arrivals n i) ≤ 64
+    pub requests : RequestsIs (tableIn ps) slots states ofs (c .requests) (c .operations) (host .state .phase) (host .trace)
     pub events-held : EventsIs events (c .events) (host .trace)
     pub lines : LinesIs logs (c .operations) (host .state .logs)
     pub objects : ObjectsIs logs registers heads befores (c .operations) (host .state .contents) (host .operations)
-    pub faithful : Faithful (M T) (known T) 16 atStart (host .state) (host .trace)
+    pub faithful : Faithful (M (tableIn ps)) (known (tableIn ps)) 16 atStart (host .state) (host .trace)
 
   -- before the first line
   pub run-start : (slots states ofs events logs : List ℕ) → Ready ps moves arrivals n slots states ofs events logs →
@@ -145,7 +129,8 @@ module _ (ps : Programs) (moves arrivals : List ℕ) (n : ℕ) where
   unfolding firsts
   run-start slots states ofs events logs h =
       let z : n - 0 ≡ n = omega arith in
-      let all : left 0 ≡ movesIn moves arrivals n = ap (from move 0) z ∙ sym (firsts-from move n) in
+      let all : left moves arrivals n 0 ≡ movesIn moves arrivals n = ap (from (moveAt moves arrivals) 0) z ∙ sym
+      (firsts-from (moveAt moves arrivals) n) in
       let blank : (r : ℕ) → r < 65536 → getD slots r 0 ≡ 0 =
       λ r i. ap (λ slots. getD slots r 0) (h .slotsBlank) ∙ getD-replicate 65536 r 0 0 i in
       record {
@@ -154,8 +139,8 @@ module _ (ps : Programs) (moves arrivals : List ℕ) (n : ℕ) where
         movesRoom = h .scheduled .movesRoom;
         few = h .scheduled .few;
         bounded = h .scheduled .bounded;
-        host = empty (M T) atStart;
-        goes = ap (λ ms. ranFrom T 1 ms (empty (M T) atStart)) all;
+        host = empty (M (tableIn ps)) atStart;
+        goes = ap (λ ms. ranFrom (tableIn ps) 1 ms (empty (M (tableIn ps)) atStart)) all;
         rids = subst (All RidIn) (sym all) (h .scheduled .rids);
         toCome = omega (arith, h .scheduled .arrivalsFew, ap arrivalsIn all);
         requests =
@@ -178,52 +163,61 @@ module _ (ps : Programs) (moves arrivals : List ℕ) (n : ℕ) where
               registersHeld = registers-start _;
               index = index-start _;
             };
-        faithful = faithful-empty (M T) (known T) 16 atStart;
+        faithful = faithful-empty (M (tableIn ps)) (known (tableIn ps)) 16 atStart;
       }
 
-  pub known-is : (prog : ℕ) (b : Bool) → ltb prog (ps .n) ≡ b → known T prog ≡ b
-  known-is prog b e = ap (ltb prog) (firsts-length _ (ps .n)) ∙ e
+pub known-is : (ps : Programs) (prog : ℕ) (b : Bool) → ltb prog (ps .n) ≡ b → known (tableIn ps) prog ≡ b
+known-is ps prog b e = ap (ltb prog) (firsts-length _ (ps .n)) ∙ e
 
-  module _ (i : ℕ) (c : Counts) (slots states ofs events logs registers heads befores : List ℕ)
-      (g : Running i c slots states ofs events logs registers heads befores) where
-    -- at the end
-    pub run-ends : n ≤ i → Finished ps moves arrivals n slots states ofs events logs c
-    run-ends h =
-        record {
-          host = g .host;
-          made-it = sym (g .goes) ∙ ap (λ ms. ranFrom T (suc i) ms (g .host)) (from-end move h);
-          requests = g .requests;
-          events-held = g .events-held;
-          lines = g .lines;
-        }
+module _ {ps : Programs} {moves arrivals : List ℕ} {n i : ℕ} {c : Counts} {slots states ofs events logs registers heads befores : List ℕ}
+    (g : Running ps moves arrivals n i c slots states ofs events logs registers heads befores) where
+  abbrev T : List Program
+  T = tableIn ps
 
-    pub requests-are : requestsIn (g .host .trace) ≡ c .requests
-    requests-are = sym (rids-length (g .host .trace)) ∙ ap length (g .requests .arrived) ∙ firsts-length _ (c .requests)
+  abbrev move : ℕ → Move
+  move = moveAt moves arrivals
 
-    pub events-are : c .events ≡ requestsIn (g .host .trace) + responsesIn (g .host .trace)
-    events-are = sym (firsts-length (eventAt events) (c .events)) ∙ ap length (g .events-held .held) ∙ events-split (g .host .trace)
+  abbrev next : List Move
+  next = left moves arrivals n (i + 1)
 
-    module _ (h : i < n) where
-      split : left i ≡ move i ∷ left (i + 1)
-      split = from-next move h
+  -- at the end
+  pub run-ends : n ≤ i → Finished ps moves arrivals n slots states ofs events logs c
+  run-ends h =
+      record {
+        host = g .host;
+        made-it = sym (g .goes) ∙ ap (λ ms. ranFrom T (suc i) ms (g .host)) (from-end move h);
+        requests = g .requests;
+        events-held = g .events-held;
+        lines = g .lines;
+      }
 
-      stepping : goOn (M T) (known T) 1024 (suc i) (stepped (M T) (known T) 1024 (g .host) (move i)) (ranFrom T (suc (suc i)) (left (i + 1)))
-          ≡ whole
-      stepping = sym (ap (λ ms. ranFrom T (suc i) ms (g .host)) split) ∙ g .goes
+  pub requests-are : requestsIn (g .host .trace) ≡ c .requests
+  requests-are = sym (rids-length (g .host .trace)) ∙ ap length (g .requests .arrived) ∙ firsts-length _ (c .requests)
 
-      pub breaks : stepped (M T) (known T) 1024 (g .host) (move i) ≡ broken → whole ≡ fault 14 (i + 1)
-      breaks e =
-          sym stepping ∙ ap (λ w. goOn (M T) (known T) 1024 (suc i) w (ranFrom T (suc (suc i)) (left (i + 1)))) e
-          ∙ ap (fault 14) (sym (add-one i))
+  pub events-are : c .events ≡ requestsIn (g .host .trace) + responsesIn (g .host .trace)
+  events-are = sym (firsts-length (eventAt events) (c .events)) ∙ ap length (g .events-held .held) ∙ events-split (g .host .trace)
 
-      pub goes-next : (h′ : Host (M T)) → stepped (M T) (known T) 1024 (g .host) (move i) ≡ on h′ →
-          ranFrom T (suc (i + 1)) (left (i + 1)) h′ ≡ whole
-      goes-next h′ e =
-          ap (λ j. ranFrom T (suc j) (left (i + 1)) h′) (add-one i)
-          ∙ sym (ap (λ w. goOn (M T) (known T) 1024 (suc i) w (ranFrom T (suc (suc i)) (left (i + 1)))) e) ∙ stepping
+  module _ (h : i < n) where
+    split : left moves arrivals n i ≡ move i ∷ next
+    split = from-next move h
 
-      pub all-rids : All RidIn (move i ∷ left (i + 1))
-      all-rids = subst (All RidIn) split (g .rids)
+    stepping : goOn (M T) (known T) 1024 (suc i) (stepped (M T) (known T) 1024 (g .host) (move i)) (ranFrom T (suc (suc i)) next)
+        ≡ whole ps moves arrivals n
+    stepping = sym (ap (λ ms. ranFrom T (suc i) ms (g .host)) split) ∙ g .goes
 
-      pub to-come : c .requests + arrivalsIn (move i ∷ left (i + 1)) ≤ 64
-      to-come = subst (λ ms. c .requests + arrivalsIn ms ≤ 64) split (g .toCome)
+    pub breaks : stepped (M T) (known T) 1024 (g .host) (move i) ≡ broken → whole ps moves arrivals n ≡ fault 14 (i + 1)
+    breaks e =
+        sym stepping ∙ ap (λ w. goOn (M T) (known T) 1024 (suc i) w (ranFrom T (suc (suc i)) next)) e
+        ∙ ap (fault 14) (sym (add-one i))
+
+    pub goes-next : (h′ : Host (M T)) → stepped (M T) (known T) 1024 (g .host) (move i) ≡ on h′ →
+        ranFrom T (suc (i + 1)) next h′ ≡ whole ps moves arrivals n
+    goes-next h′ e =
+        ap (λ j. ranFrom T (suc j) next h′) (add-one i)
+        ∙ sym (ap (λ w. goOn (M T) (known T) 1024 (suc i) w (ranFrom T (suc (suc i)) next)) e) ∙ stepping
+
+    pub all-rids : All RidIn (move i ∷ next)
+    all-rids = subst (All RidIn) split (g .rids)
+
+    pub to-come : c .requests + arrivalsIn (move i ∷ next) ≤ 64
+    to-come = subst (λ ms. c .requests + arrivalsIn ms ≤ 64) split (g .toCome)

@@ -1,5 +1,5 @@
 -- Laws of the requests in arrays: one opens in the next slot, and one goes on or closes in its own.
-use Prim.Native.Nat.{ℕ, zero, suc, _+_, _*_, _%_, _≤_, _<_}
+use Prim.Native.Nat.{ℕ, zero, suc, _+_, _*_, _≤_, _<_}
 use mathlib.Core.Bool.{true, false}
 use mathlib.Core.List.{List, [], _∷_, _++_}
 use mathlib.Core.Path.{_≡_, refl, sym, ap, subst, _∙_}
@@ -12,18 +12,17 @@ use Rattle.text.specs.Held.{ofAt}
 use Rattle.text.specs.Report.{ofFrom}
 use Rattle.text.specs.Rows.{row, withRow, firsts}
 use Rattle.text.specs.declared.programs.Program.{Program}
-use Rattle.text.specs.declared.report.Of.{Of}
 use Rattle.text.specs.declared.trace.Event.the-variants.{Request, Response}
 use Rattle.text.specs.declared.trace.Event.{Event}
 use Rattle.text.proofs.RowLaws.{row-room, row-put, row-other, firsts-same, firsts-more}
 use Rattle.ordering.specs.Maps.{upd}
-use Rattle.ordering.proofs.Basics.{clash, byEq, same-or, upd-same, upd-at, upd-other}
+use Rattle.ordering.proofs.Basics.{clash, byEq, upd-at, upd-other}
 use Rattle.model.specs.PlainRun.{Phase, absent, opened, closed}
-use Rattle.machine.specs.Instance.{Process, machine}
-use Rattle.machine.specs.Processes.{limit, firstLocals}
+use Rattle.machine.specs.Instance.{Process}
+use Rattle.machine.specs.Processes.{firstLocals}
 use Rattle.host.specs.Moves.{progress}
 use Rattle.host.specs.Requests.{stateNumbers, isOpenIn, progressIn, localsIn}
-use Rattle.host.specs.Runs.{Seen, missing, going, over, seenRow, seenSlot, ridsOf, RowIs, M, seen, RequestsIs}
+use Rattle.host.specs.Runs.{missing, going, over, seenRow, seenSlot, ridsOf, RowIs, M, seen, RequestsIs}
 
 -- ── `of` rows ──
 of-row : (ofs : List ℕ) (s : ℕ) → s < 64 → ofAt ofs s ≡ ofFrom (row 3 ofs s)

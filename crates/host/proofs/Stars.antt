@@ -15,11 +15,13 @@ use Rattle.text.specs.Report.{ofText, entryText, reportText}
 use Rattle.text.specs.Schedule.{addArrive, addTurn, readSchedule}
 use Rattle.text.specs.Text.{within, count, linesText, addLine, readLines, readText}
 use Rattle.text.specs.Trace.{eventText, traceText}
+use Rattle.writing.specs.Verdict.{verdictText}
 use Rattle.ordering.specs.Maps.{upd}
 use Rattle.model.specs.Host.{Result, fault, made}
 use Rattle.machine.specs.Instructions.{effectAs}
 use Rattle.machine.specs.Processes.{go}
 use Rattle.machine.specs.Rules.{instructions, programs}
+use Rattle.host.specs.Printed.{recordedText}
 use Rattle.host.specs.Recorded.{Texts, batchOf, recordOf, resultOf}
 use Rattle.host.specs.declared.Recorded.{Recorded}
 
@@ -54,10 +56,14 @@ programsC =
 abbrev scheduleC : List String
 scheduleC = "arrive=1,0,0,0" ∷ "arrive=2,1,0,0" ∷ "turn=1" ∷ "turn=2" ∷ "turn=1" ∷ "turn=2" ∷ "turn=1" ∷ "turn=2" ∷ []
 
+abbrev traceC : List String
+traceC = "request=1,0,0,0" ∷ "request=2,1,0,0" ∷ "response=1,0,1" ∷ "response=2,0,1" ∷ []
+
+abbrev reportC : List String
+reportC = "of=1,0,2" ∷ "of=2,1,2" ∷ "log=0,1,1,7,0,1" ∷ "log=0,2,2,6,0,0" ∷ "log=1,2,1,7,0,1" ∷ "log=1,1,2,6,0,0" ∷ []
+
 abbrev writesC : Result Texts
-writesC =
-    writes ("request=1,0,0,0" ∷ "request=2,1,0,0" ∷ "response=1,0,1" ∷ "response=2,0,1" ∷ [])
-    ("of=1,0,2" ∷ "of=2,1,2" ∷ "log=0,1,1,7,0,1" ∷ "log=0,2,2,6,0,0" ∷ "log=1,2,1,7,0,1" ∷ "log=1,1,2,6,0,0" ∷ [])
+writesC = writes traceC reportC
 
 abbrev programsLoop : List String
 programsLoop = "program=0" ∷ "do=1,2,1,0" ∷ "do=5,2,0,0" ∷ "do=0,0,0,0" ∷ []
@@ -74,6 +80,12 @@ unfolding recordOf batchOf readPrograms readSchedule readText readLines addLine 
     parts onto within count addProgram addDo addArrive addTurn programs instructions go effectAs upd
     traceText reportText linesText eventText ofText entryText lineText numbersText separatorOf decimal digitsIn
 stars = refl
+
+-- what the program prints: C's texts behind the verdict lines, and a refusal's verdict lines alone
+printed : map recordedText (writesC ∷ fault 15 1 ∷ [])
+    ≡ text ("verdict=0" ∷ "line=0" ∷ (traceC ++ reportC)) ∷ text ("verdict=15" ∷ "line=1" ∷ []) ∷ []
+unfolding recordedText verdictText lineText numbersText separatorOf decimal digitsIn
+printed = refl
 
 -- ── the small examples of rows 1, 2 and 13 to 16 ──
 abbrev replies : List String

@@ -1,7 +1,6 @@
--- The loop over a schedule, at a turn: of no request, of one that has its response, or of an open one, which goes on to its next operation or
--- to its reply or cut.
-use Prim.Native.Nat.{ℕ, zero, suc, _+_, _-_, _%_, _≤_, _<_}
-use mathlib.Core.Bool.{true, false}
+-- The loop over a schedule, at a turn: of no request, of one that has its response, or of an open one, which goes on to its next
+-- operation, or to its reply or cut.
+use Prim.Native.Nat.{ℕ, suc, _+_, _-_, _%_, _≤_, _<_}
 use mathlib.Core.List.{List, [], _∷_, _++_}
 use mathlib.Core.Logic.{⊎-elim}
 use mathlib.Core.Path.{_≡_, refl, sym, ap, subst, _∙_}
@@ -13,7 +12,7 @@ use lib.ListN.{length, getD}
 use borrow.Author.Tests.{lt-ltb, le-ltb, ltb-true, ltb-false}
 use Rattle.lines.specs.Place.{cells}
 use Rattle.lines.proofs.FieldLaws.{cells-all}
-use Rattle.text.specs.Held.{noProgram, programAt, Bounded, ofAt, entryAt}
+use Rattle.text.specs.Held.{noProgram, programAt, ofAt, entryAt, moveAt}
 use Rattle.text.specs.Rows.{row, withRow}
 use Rattle.text.specs.declared.programs.Instr.{Instr}
 use Rattle.text.specs.declared.programs.Program.{Program}
@@ -25,10 +24,10 @@ use Rattle.text.proofs.RowLaws.{firsts-length}
 use Rattle.ordering.specs.Lists.{All}
 use Rattle.ordering.specs.Maps.{upd}
 use Rattle.ordering.proofs.Basics.{clash, byBool}
-use Rattle.model.specs.Host.{Host, Stepped, broken, on, fault, turnOf, commit, stepped, afterOperation, afterReply}
+use Rattle.model.specs.Host.{Host, broken, on, fault, turnOf, commit, stepped, afterOperation, afterReply}
 use Rattle.model.specs.Machine.{op, stop}
 use Rattle.model.specs.PlainRun.{Phase, absent, opened, closed, operated, replied, answerNow}
-use Rattle.model.specs.Ranges.{requestsIn, responsesIn, arrivalsIn}
+use Rattle.model.specs.Ranges.{arrivalsIn}
 use Rattle.model.proofs.Faithful.{hasArrived, isClosed, faithful-operate, faithful-reply, add-response}
 use Rattle.model.proofs.Ranges.{responses-few, requests-append}
 use Rattle.machine.specs.Index.{stored, performed, performOf}
@@ -41,9 +40,9 @@ use Rattle.machine.specs.declared.processes.Next.{Next}
 use Rattle.machine.proofs.Bounds.{within}
 use Rattle.machine.proofs.Locals.{go-length, resumed-length}
 use Rattle.machine.proofs.Tables.{same-code, go-same}
-use Rattle.host.specs.Moves.{progress, counts, lineOf, joined, Operated, Replied, ReplyIs, OperationIs, NextIs, wentOn, TurnIs}
-use Rattle.host.specs.Requests.{stateNumbers, isOpenIn, progressIn, localsIn, standingIn}
-use Rattle.host.specs.Runs.{missing, going, over, seenRow, seenSlot, M, seen, RequestsIs, LinesIs, RidIn, ranFrom}
+use Rattle.host.specs.Moves.{progress, counts, lineOf, joined, ReplyIs, NextIs, wentOn, TurnIs}
+use Rattle.host.specs.Requests.{stateNumbers, progressIn, localsIn, standingIn}
+use Rattle.host.specs.Runs.{going, over, seenRow, seenSlot, M, seen, LinesIs, RidIn, ranFrom, tableIn}
 use Rattle.host.specs.declared.requests.Progress.{Progress}
 use Rattle.host.specs.declared.requests.Standing.the-variants.{Missing, Idle, Open}
 use Rattle.host.specs.declared.requests.Standing.{Standing}
@@ -51,10 +50,8 @@ use Rattle.host.specs.declared.steps.Counts.{Counts}
 use Rattle.host.specs.declared.steps.Step.the-variants.{Broken, On}
 use Rattle.host.specs.declared.steps.Step.{Step}
 use Rattle.host.proofs.EventRows.{event-joins}
-use Rattle.host.proofs.LogLines.{ObjectsIs, line-joins, answer-is, line-done}
+use Rattle.host.proofs.LogLines.{line-joins, answer-is, line-done}
 use Rattle.host.proofs.Running.{
-  T,
-  move,
   left,
   whole,
   Finds,
@@ -71,7 +68,6 @@ use Rattle.host.proofs.Running.{
 }
 use Rattle.host.proofs.Slots.{
   of-put,
-  Changed,
   state-put,
   state-changed,
   both-changed,
@@ -92,13 +88,14 @@ module _ (table : List Program) (code : List Instr) (v path : List ℕ) (prog : 
       let e : advanceOf limit (codeAt table (p .prog)) (p .locals) (p .at) (p .done)
       ≡ advanceOf limit (codeAt table prog) (localsIn v) (progressIn v .at) (progressIn v .done) =
       λ i. advanceOf limit (codeAt table (q i)) (l i) (a i) (d i) in
-      ap (behindAll (p .path)) (e ∙ go-same (codeAt table prog) code same (limit - progressIn v .done) (localsIn v) (progressIn v .at) (progressIn v .done))
+      ap (behindAll (p .path)) (e ∙ go-same (codeAt table prog) code same (limit - progressIn v .done) (localsIn v) (progressIn v .at)
+      (progressIn v .done))
 
-module _ (ps : Programs) (moves arrivals : List ℕ) (n i : ℕ) (c : Counts) (slots states ofs events logs registers heads befores : List ℕ)
+module _ {ps : Programs} {moves arrivals : List ℕ} {n i : ℕ} {c : Counts} {slots states ofs events logs registers heads befores : List ℕ}
     (g : Running ps moves arrivals n i c slots states ofs events logs registers heads befores) (h : i < n)
-    (r : ℕ) (e : Turn r ≡ move ps moves arrivals n i) where
+    {r : ℕ} (e : Turn r ≡ moveAt moves arrivals i) where
   abbrev U : List Program
-  U = T ps moves arrivals n
+  U = tableIn ps
 
   abbrev h₀ : Host (M U)
   h₀ = g .host
@@ -113,28 +110,28 @@ module _ (ps : Programs) (moves arrivals : List ℕ) (n i : ℕ) (c : Counts) (s
   slot-is : getD slots (r % 65536) 0 ≡ getD slots r 0
   slot-is = ap (λ r. getD slots r 0) (mod-eq-of-lt rid)
 
-  step-is : stepped (M U) (known U) 1024 h₀ (move ps moves arrivals n i)
+  step-is : stepped (M U) (known U) 1024 h₀ (moveAt moves arrivals i)
       ≡ commit (M U) (known U) 1024 h₀ (turnOf (M U) (h₀ .state) r (h₀ .state .phase r))
   step-is = ap (stepped (M U) (known U) 1024 h₀) (sym e)
 
   step-at : (f : Phase (M U)) → h₀ .state .phase r ≡ f →
-      stepped (M U) (known U) 1024 h₀ (move ps moves arrivals n i) ≡ commit (M U) (known U) 1024 h₀ (turnOf (M U) (h₀ .state) r f)
+      stepped (M U) (known U) 1024 h₀ (moveAt moves arrivals i) ≡ commit (M U) (known U) 1024 h₀ (turnOf (M U) (h₀ .state) r f)
   step-at f d = step-is ∙ ap (λ f. commit (M U) (known U) 1024 h₀ (turnOf (M U) (h₀ .state) r f)) d
 
-  breaks-here : stepped (M U) (known U) 1024 h₀ (move ps moves arrivals n i) ≡ broken → whole ps moves arrivals n ≡ fault 14 (i + 1)
-  breaks-here = breaks ps moves arrivals n i c slots states ofs events logs registers heads befores g h
+  breaks-here : stepped (M U) (known U) 1024 h₀ (moveAt moves arrivals i) ≡ broken → whole ps moves arrivals n ≡ fault 14 (i + 1)
+  breaks-here = breaks g h
 
-  next-here : (h′ : Host (M U)) → stepped (M U) (known U) 1024 h₀ (move ps moves arrivals n i) ≡ on h′ →
-      ranFrom U (suc (i + 1)) (left ps moves arrivals n (i + 1)) h′ ≡ whole ps moves arrivals n
-  next-here = goes-next ps moves arrivals n i c slots states ofs events logs registers heads befores g h
+  next-here : (h′ : Host (M U)) → stepped (M U) (known U) 1024 h₀ (moveAt moves arrivals i) ≡ on h′ →
+      ranFrom U (suc (i + 1)) (left moves arrivals n (i + 1)) h′ ≡ whole ps moves arrivals n
+  next-here = goes-next g h
 
-  arrivals-left : c .requests + arrivalsIn (left ps moves arrivals n (i + 1)) ≤ 64
+  arrivals-left : c .requests + arrivalsIn (left moves arrivals n (i + 1)) ≤ 64
   arrivals-left =
-      subst (λ m. c .requests + arrivalsIn (m ∷ left ps moves arrivals n (i + 1)) ≤ 64) (sym e)
-      (to-come ps moves arrivals n i c slots states ofs events logs registers heads befores g h)
+      subst (λ m. c .requests + arrivalsIn (m ∷ left moves arrivals n (i + 1)) ≤ 64) (sym e)
+      (to-come g h)
 
-  rids-left : All RidIn (left ps moves arrivals n (i + 1))
-  rids-left = all-rids ps moves arrivals n i c slots states ofs events logs registers heads befores g h .1
+  rids-left : All RidIn (left moves arrivals n (i + 1))
+  rids-left = all-rids g h .1
 
   -- ── no such request ──
   pub turn-missing : Missing ≡ standingIn states (getD slots (r % 65536) 0) → whole ps moves arrivals n ≡ fault 14 (i + 1)
@@ -173,7 +170,7 @@ module _ (ps : Programs) (moves arrivals : List ℕ) (n i : ℕ) (c : Counts) (s
       }
 
   -- ── an open one, in slot s ──
-  module _ (s prog : ℕ) (d : Open s prog ≡ standingIn states (getD slots (r % 65536) 0)) where
+  module _ {s prog : ℕ} (d : Open s prog ≡ standingIn states (getD slots (r % 65536) 0)) where
     abbrev v : List ℕ
     v = row 12 states s
 
@@ -209,8 +206,8 @@ module _ (ps : Programs) (moves arrivals : List ℕ) (n i : ℕ) (c : Counts) (s
         let few = responses-few (h₀ .trace ++ Response r 0 0 ∷ []) more in
         let a = responses-more (h₀ .trace) r 0 0 in
         let b = requests-append (h₀ .trace) (Response r 0 0 ∷ []) in
-        let x = requests-are ps moves arrivals n i c slots states ofs events logs registers heads befores g in
-        let y = events-are ps moves arrivals n i c slots states ofs events logs registers heads befores g in
+        let x = requests-are g in
+        let y = events-are g in
         (found .1, omega (arith, few, a, b, x, y, g .requests .few), g .requests .rows s (owned .0) .few)
 
     module _ (code : List Instr) (same : (at : ℕ) → instrAt (codeAt U prog) at ≡ instrAt code at) where
@@ -243,7 +240,7 @@ module _ (ps : Programs) (moves arrivals : List ℕ) (n i : ℕ) (c : Counts) (s
         abbrev after : Host (M U)
         after = afterReply (M U) h₀ (replied (M U) (h₀ .state) r p k) r status value
 
-        reply-steps : stepped (M U) (known U) 1024 h₀ (move ps moves arrivals n i) ≡ on after
+        reply-steps : stepped (M U) (known U) 1024 h₀ (moveAt moves arrivals i) ≡ on after
         reply-steps = step-at (opened p k) (is .phase) ∙ rw z refl
 
         put-shut : row 12 (withRow 12 states s shut) s ≡ shut
@@ -323,7 +320,7 @@ module _ (ps : Programs) (moves arrivals : List ℕ) (n i : ℕ) (c : Counts) (s
           abbrev worked : Host (M U)
           worked = afterOperation (M U) h₀ (operated (M U) (h₀ .state) r (suc k) p o)
 
-          operation-steps : stepped (M U) (known U) 1024 h₀ (move ps moves arrivals n i) ≡ on worked
+          operation-steps : stepped (M U) (known U) 1024 h₀ (moveAt moves arrivals i) ≡ on worked
           operation-steps =
               step-at (opened p k) (is .phase)
               ∙ rw (advances-to, lt-ltb (h₀ .operations) 1024 (omega (arith, few, g .objects .counted))) refl
@@ -339,16 +336,19 @@ module _ (ps : Programs) (moves arrivals : List ℕ) (n i : ℕ) (c : Counts) (s
               answer-is logs (c .operations) (lineOf ofs s r o) (g .lines .room) few registers heads befores (h₀ .state .contents)
               (h₀ .operations) (g .objects) registers′ heads′ befores′ answer done
 
-          resumes : seen U (opened (M U .resume p (answerNow (M U) (h₀ .state) o)) (suc k)) ≡ seenRow (row 12 states′ s) (ofAt ofs′ s .count)
+          resumes : seen U (opened (M U .resume p (answerNow (M U) (h₀ .state) o)) (suc k))
+              ≡ seenRow (row 12 states′ s) (ofAt ofs′ s .count)
           resumes =
-              let e : going (p .prog) (resumed (gone limit U p .locals) (intoOf (gone limit U p .stop .next)) (answerNow (M U) (h₀ .state) o))
+              let e : going (p .prog) (resumed (gone limit U p .locals) (intoOf (gone limit U p .stop .next))
+              (answerNow (M U) (h₀ .state) o))
               (gone limit U p .stop .at) (gone limit U p .stop .done) (suc k)
               ≡ going (p .prog) (resumed (went .locals) (intoOf (went .stop .next)) answer) (went .stop .at) (went .stop .done) (suc k) =
               λ j. going (p .prog) (resumed (goes j .locals) (intoOf (goes j .stop .next)) (sym answers j))
               (goes j .stop .at) (goes j .stop .done) (suc k) in
               let into-is : intoOf (went .stop .next) ≡ into = ap intoOf z in
               let all : cells 8 l ≡ l = cells-all 8 l (resumed-length (went .locals) into answer ∙ eight) in
-              let f : going (p .prog) (resumed (went .locals) (intoOf (went .stop .next)) answer) (went .stop .at) (went .stop .done) (suc k)
+              let f : going (p .prog) (resumed (went .locals) (intoOf (went .stop .next)) answer) (went .stop .at) (went .stop .done)
+              (suc k)
               ≡ going (progressIn v .prog) l (went .stop .at) (went .stop .done) (suc k) =
               λ j. going (is .prog j) (resumed (went .locals) (into-is j) answer) (went .stop .at) (went .stop .done) (suc k) in
               let q : suc k ≡ k + 1 = sym (add-one k) in
@@ -428,8 +428,8 @@ module _ (ps : Programs) (moves arrivals : List ℕ) (n i : ℕ) (c : Counts) (s
             reply-next 0 value (advances (Reply value) z) states′ ofs′ events′ logs′ registers′ heads′ befores′ x f d b
         next-on d b Cut z f = reply-next 1 0 (advances Cut z) states′ ofs′ events′ logs′ registers′ heads′ befores′ x f d b
 
-    module _ (q : Program) (at : q ≡ getD (ps .table) (prog % 16) noProgram)
-        (states′ ofs′ events′ logs′ registers′ heads′ befores′ : List ℕ) (x : Step)
+    module _ {q : Program} (at : q ≡ getD (ps .table) (prog % 16) noProgram)
+        {states′ ofs′ events′ logs′ registers′ heads′ befores′ : List ℕ} {x : Step}
         (f : TurnIs (q .code) c s r states ofs events logs registers heads befores
         states′ ofs′ events′ logs′ registers′ heads′ befores′ x) where
       same : (at : ℕ) → instrAt (codeAt U prog) at ≡ instrAt (q .code) at

@@ -1,6 +1,7 @@
 -- The definitions, in reading order.
 pub mod Recorded
 pub mod Accepted
+pub mod Printed
 -- What private functions promise
 pub mod Steps
 pub mod Requests

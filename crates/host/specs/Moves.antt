@@ -28,7 +28,8 @@ abbrev pub counts : (requests events operations : ℕ) → Counts
 counts requests events operations = record { requests = requests; events = events; operations = operations }
 
 -- ── an arrival: the request opens in the next slot ──
-pub record Arrived (c : Counts) (rid prog a b : ℕ) (slots states ofs events slots′ states′ ofs′ events′ : List ℕ) (r : Counts) : Type 0 where
+pub record Arrived (c : Counts) (rid prog a b : ℕ) (slots states ofs events slots′ states′ ofs′ events′ : List ℕ)
+    (r : Counts) : Type 0 where
   pub slot : slots′ ≡ set slots (rid % 65536) (c .requests + 1)
   pub state : states′ ≡ withRow 12 states (c .requests) (stateNumbers 1 (progress prog 0 0) (cells 8 (firstLocals a b)))
   pub own : ofs′ ≡ withRow 3 ofs (c .requests) (rid ∷ c .requests ∷ 0 ∷ [])
@@ -70,7 +71,8 @@ pub record Replied (c : Counts) (s rid : ℕ) (x : Progress) (l : List ℕ) (sta
 
 -- what the arrays are behind a turn that comes to an end
 pub record ReplyIs (c : Counts) (s rid : ℕ) (x : Progress) (l : List ℕ) (status value : ℕ)
-    (states ofs events logs registers heads befores states′ ofs′ events′ logs′ registers′ heads′ befores′ : List ℕ) (r : Step) : Type 0 where
+    (states ofs events logs registers heads befores states′ ofs′ events′ logs′ registers′ heads′ befores′ : List ℕ)
+    (r : Step) : Type 0 where
   pub after : Counts
   pub on : r ≡ On after
   pub replies : Replied c s rid x l status value states events states′ events′ after
@@ -82,7 +84,8 @@ pub record ReplyIs (c : Counts) (s rid : ℕ) (x : Progress) (l : List ℕ) (sta
 
 -- and behind one that comes to an operation, of which there are at most 1,024
 pub record OperationIs (c : Counts) (s rid : ℕ) (x : Progress) (l : List ℕ) (o : Op) (into : ℕ)
-    (states ofs events logs registers heads befores states′ ofs′ events′ logs′ registers′ heads′ befores′ : List ℕ) (r : Step) : Type 0 where
+    (states ofs events logs registers heads befores states′ ofs′ events′ logs′ registers′ heads′ befores′ : List ℕ)
+    (r : Step) : Type 0 where
   pub full : 1024 ≤ c .operations → r ≡ Broken
   pub operates : c .operations < 1024 →
       (d : Counts) × (r ≡ On d) × (events′ ≡ events)
@@ -102,7 +105,8 @@ abbrev pub wentOn : List Instr → List ℕ → Advanced
 wentOn code v = advanceOf limit code (localsIn v) (progressIn v .at) (progressIn v .done)
 
 pub record TurnIs (code : List Instr) (c : Counts) (s rid : ℕ)
-    (states ofs events logs registers heads befores states′ ofs′ events′ logs′ registers′ heads′ befores′ : List ℕ) (r : Step) : Type 0 where
+    (states ofs events logs registers heads befores states′ ofs′ events′ logs′ registers′ heads′ befores′ : List ℕ)
+    (r : Step) : Type 0 where
   pub next : NextIs (wentOn code (row 12 states s) .stop .next) c s rid
       (progress (progressIn (row 12 states s) .prog) (wentOn code (row 12 states s) .stop .at) (wentOn code (row 12 states s) .stop .done))
       (wentOn code (row 12 states s) .locals)

@@ -1,4 +1,5 @@
--- The reference host on texts: its checks in the order of the scope (1, 2, 13, then 14 line by line, 15, 16), what it writes, and its result.
+-- The reference host on texts: its checks in the order of the scope (1, 2, 13, then 14 line by line, 15, 16), what it writes, and its
+-- result.
 use Prim.Native.Nat.{ℕ}
 use mathlib.Core.Bool.{cond, _&&_}
 use mathlib.Core.List.{List, []}

@@ -1,12 +1,14 @@
 // The reference host: the run of a schedule, and the trace and the report that it writes.
 mod logs;
 mod outputs;
+mod printing;
 mod records;
 mod requests;
 mod runs;
 mod steps;
 mod turns;
 
+pub use printing::record_text;
 pub use records::record;
 
 // What the host comes to: the number of the verdict with its line, and how long the two texts are that it wrote, both 0 on a refusal.

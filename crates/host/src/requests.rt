@@ -1,5 +1,5 @@
-// The requests of a run. Each has a slot, in arrival order, where its `of` line and its state stand. The slot of a rid counts from 1; 0 says
-// that the rid has not arrived.
+// The requests of a run. Each has a slot, in arrival order, where its `of` line and its state stand. The slot of a rid counts from 1;
+// 0 says that the rid has not arrived.
 ghost use mathlib.Core.Path.{_≡_};
 ghost use mathlib.Core.List.{[], _∷_};
 ghost use Prim.Native.Nat.{_%_, _<_};

@@ -1,4 +1,5 @@
-// What one line of the schedule does to a run: an arrival opens a request; a turn takes one on to its next operation, or to its reply or cut.
+// What one line of the schedule does to a run: an arrival opens a request; a turn takes one on to its next operation, or to its reply
+// or cut.
 use crate::logs::put_line;
 use crate::requests::Progress;
 use crate::requests::locals_at;

@@ -95,7 +95,8 @@ pub fn line_at(
     high: &[u64; 6],
     v: &mut [u64; 6],
 ) -> Place
-    ensures { λ r. ⌜ foundIn r n (now (v .exit)) ≡ lineAt (formatOf (now (w .entry)) n (now (low .entry)) (now (high .entry))) (now (s .entry)) at ⌝ }
+    ensures { λ r. ⌜ foundIn r n (now (v .exit))
+        ≡ lineAt (formatOf (now (w .entry)) n (now (low .entry)) (now (high .entry))) (now (s .entry)) at ⌝ }
 {
     if s.len() < at {
         return Place::Nowhere;

@@ -67,7 +67,8 @@ fn audit_report(
     n: usize,
 ) -> Audited
     requires { ⌜ ReportHeld ps (now events) t (now ofs) m (now logs) n ⌝ }
-    ensures { λ r. ⌜ r ≡ auditedReport (tableIn ps) (eventsIn (now (events .entry)) t) (linesIn (now (ofs .entry)) m (now (logs .entry)) n) ⌝ }
+    ensures { λ r. ⌜ r
+        ≡ auditedReport (tableIn ps) (eventsIn (now (events .entry)) t) (linesIn (now (ofs .entry)) m (now (logs .entry)) n) ⌝ }
 {
     match row_6(events, t, ofs, m) {
         Ruling::Broken(line) => {

@@ -99,7 +99,8 @@ pub fn report_width(ofs: &[u64; 192], m: usize, logs: &[u64; 6144], n: usize) ->
 
 // Writes them to the front of out, or nothing where out is too short.
 pub fn put_report(out: &mut [u8], ofs: &[u64; 192], m: usize, logs: &[u64; 6144], n: usize) -> Put
-    ensures { λ r. ⌜ PutIs (reportText (reportOf (now (ofs .entry)) (min m 64) (now (logs .entry)) (min n 1024))) (now (out .entry)) (now (out .exit)) r ⌝ }
+    ensures { λ r. ⌜ PutIs (reportText (reportOf (now (ofs .entry)) (min m 64) (now (logs .entry)) (min n 1024)))
+        (now (out .entry)) (now (out .exit)) r ⌝ }
 {
     let k = at_most(m, 64);
     let l = k + at_most(n, 1024);

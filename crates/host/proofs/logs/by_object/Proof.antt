@@ -1,6 +1,6 @@
 -- `by_object` meets its contract. The invariant: the lines of the objects looked at stand in out.
-use native.Mathlib.Omega.{arith}
 use Prim.Native.Nat.{_-_, _≤_}
+use native.Mathlib.Omega.{arith}
 use Rattle.host.specs.Steps.{Sorted}
 use Rattle.host.proofs.Sorting.{no-object, room-left, one-object, all-objects}
 use borrow.Author.Needs.{needs}

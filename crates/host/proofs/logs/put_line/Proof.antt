@@ -1,8 +1,8 @@
 -- `put_line` meets its contract.
 use Prim.Native.Nat.{_*_}
 use denote.Ref.{now}
-use Rattle.text.specs.Rows.{withRow}
 use Rattle.text.proofs.RowLaws.{sets-six}
+use Rattle.text.specs.Rows.{withRow}
 use borrow.Author.Needs.{needs}
 use Rattle.host.proofs.logs.put_line.Statement.{statement}
 use Rattle.host.proofs.logs.put_line.Tie as tie

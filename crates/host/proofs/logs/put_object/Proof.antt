@@ -1,7 +1,7 @@
 -- `put_object` meets its contract. The invariant: the object's lines among those looked at have joined.
+use Prim.Native.Nat.{_-_, _≤_}
 use mathlib.Core.Path.{sym, ap, _∙_}
 use native.Mathlib.Omega.{arith}
-use Prim.Native.Nat.{_-_, _≤_}
 use Rattle.text.specs.Report.{entryNumbers}
 use Rattle.text.specs.Rows.{withRow}
 use Rattle.host.specs.Steps.{Picked}

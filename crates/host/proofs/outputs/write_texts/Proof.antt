@@ -1,6 +1,6 @@
 -- `write_texts` meets its contract.
-use denote.Ref.{now}
 use native.Mathlib.Omega.{arith}
+use denote.Ref.{now}
 use Rattle.host.specs.Steps.{heldTexts}
 use Rattle.host.proofs.Fitting.{short-trace, short-report, both-fit}
 use borrow.Author.Needs.{needs}

@@ -1,6 +1,6 @@
 -- `go_on` meets its contract. The invariant: from where the request stands it comes to what it comes to from the start.
-use native.Mathlib.Omega.{arith}
 use Prim.Native.Nat.{_-_}
+use native.Mathlib.Omega.{arith}
 use Rattle.machine.specs.Processes.{limit, advanceOf}
 use Rattle.host.proofs.Going.{SameEnd, same-start, one-more, used-up}
 use borrow.Author.Needs.{needs}

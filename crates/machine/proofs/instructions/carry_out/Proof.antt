@@ -29,7 +29,8 @@ returns-5 c = c .asked .ensures _
 returns-6 : tie.Need-returns-6
 unfolding effectAs
 returns-6 c =
-    ap (λ x. effectAs x (c .before .before .before .args .l .now) (c .before .before .before .args .i) (c .before .before .before .args .next))
+    let at-start = c .before .before .before in
+    ap (λ x. effectAs x (at-start .args .l .now) (at-start .args .i) (at-start .args .next))
     (List·getD-eq-default codes other (c .if3 .left))
 
 pub carry-out-spec : {M : Type 1} → statement M

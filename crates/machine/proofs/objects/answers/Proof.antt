@@ -26,14 +26,16 @@ loop-holds c = (omega arith, registers-start _, index-start _, refl)
 
 loop-again : tie.Need-loop-again Inv-loop μ-loop
 loop-again c =
-    let h = c .before .before .before .before .before in
+    let at-before = c .before .before .before .before in
+    let h = at-before .before in
     let lines = entryAt (h .before .before .args .logs .now) in
     let p = passed lines (h .loop .i) (h .loop .registers) (h .loop .heads) (h .loop .befores) _ _ _ _ (c .perform .ensures)
     (omega arith) (h .loop .inv .1) (h .loop .inv .2) in (
       omega arith,
       p .registers,
       p .index,
-      answers-next lines (h .loop .i) (h .before .before .args .out .now) (h .loop .out) (c .perform .result) (h .loop .inv .3) (p .answers),
+      answers-next lines (h .loop .i) (h .before .before .args .out .now) (h .loop .out) (c .perform .result) (h .loop .inv .3)
+          (p .answers),
     )
 
 returns : tie.Need-returns Inv-loop μ-loop

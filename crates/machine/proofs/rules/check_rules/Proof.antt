@@ -33,7 +33,10 @@ abbrev μ-table : tie.MeasureT-table
 
 -- the program that is looked at, past its `program` line
 abbrev program : tie.Else1 Inv-loop μ-loop Inv-table μ-table → Program
-program c = getD (c .before .before .before .before .before .before .args .t1 .table) (c .before .before .before .before .table .k) noProgram
+program c =
+    let at-table = c .before .before .before .before in
+    let at-start = at-table .before .before in
+    getD (at-start .args .t1 .table) (at-table .table .k) noProgram
 
 head : (c : tie.Else1 Inv-loop μ-loop Inv-table μ-table)
     → headKeeps (program c .number) (program c .n) (c .before .before .before .before .table .k) ≡ true

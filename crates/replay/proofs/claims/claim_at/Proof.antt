@@ -32,11 +32,14 @@ element-copy-out-wide-2 c = search needs
 
 loop-less : tie.Need-loop-less Inv-loop μ-loop
 loop-less c =
-    let s = c .before .before .before .before .before .before .before .before .before in
+    let at-loop-test = c .before .before .before .before in
+    let at-loop = at-loop-test .before in
+    let at-before = at-loop .before .before .before in
+    let s = at-before .before in
     omega (
       arith,
       walk-down _ _ (s .pre .0) (s .args .heads .now) (s .args .afters .now) _ _ (s .pre .1) _
-          (c .before .before .before .before .before .loop .inv) (c .before .before .before .before .loop-test .taken) _ (c .wide2 .ensures),
+          (at-loop .loop .inv) (at-loop-test .loop-test .taken) _ (c .wide2 .ensures),
     )
 
 loop-again : tie.Need-loop-again Inv-loop μ-loop

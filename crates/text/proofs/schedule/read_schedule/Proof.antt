@@ -2,7 +2,22 @@
 use Prim.Native.Nat.{_-_}
 use native.Mathlib.Omega.{arith}
 use lib.ListN.{length}
-use Rattle.text.proofs.ScheduleReading.{Held, held-long, held-start, held-done, held-neither, arrive-cut, arrive-full, arrive-room, arrive-bytes, arrive-on, turn-adds, turn-cut, turn-room, turn-on}
+use Rattle.text.proofs.ScheduleReading.{
+  Held,
+  held-long,
+  held-start,
+  held-done,
+  held-neither,
+  arrive-cut,
+  arrive-full,
+  arrive-room,
+  arrive-bytes,
+  arrive-on,
+  turn-adds,
+  turn-cut,
+  turn-room,
+  turn-on,
+}
 use borrow.Author.Needs.{needs}
 use Rattle.text.proofs.schedule.read_schedule.Statement.{statement}
 use Rattle.text.proofs.schedule.read_schedule.Tie as tie

@@ -7,16 +7,49 @@ use Rattle.verifier.proofs.audits.audit_report.Statement.{statement}
 use Rattle.verifier.proofs.audits.audit_report.Tie as tie
 
 returns : tie.Need-returns
-returns c = let a = c .before .before .before .before .before .args in c .refused .ensures ∙ at-6 (tableIn (a .ps)) (eventsIn (a .events .now) (a .t)) (linesIn (a .ofs .now) (a .m) (a .logs .now) (a .n)) _ (broken _ _ _ (c .before .before .before .before .row-6 .ensures) (c .before .before .line .given .1))
+returns c =
+    let at-row-6 = c .before .before .before .before in
+    let at-start = at-row-6 .before in
+    let a = at-start .args in
+    c .refused .ensures ∙ at-6 (tableIn (a .ps)) (eventsIn (a .events .now) (a .t)) (linesIn (a .ofs .now) (a .m) (a .logs .now) (a .n)) _
+    (broken _ _ _ (at-row-6 .row-6 .ensures) (c .before .before .line .given .1))
 
 returns-2 : tie.Need-returns-2
-returns-2 c = let a = c .before .before .before .before .before .before .before .before .before .before .before .args in c .refused2 .ensures ∙ at-7 (tableIn (a .ps)) (eventsIn (a .events .now) (a .t)) (linesIn (a .ofs .now) (a .m) (a .logs .now) (a .n)) (kept _ _ (c .before .before .before .before .before .before .before .before .before .before .row-6 .ensures) (c .before .before .before .before .before .before .before .before .enum-told .given .1)) _ (broken _ _ _ (c .before .before .before .before .row-7 .ensures) (c .before .before .line2 .given .1))
+returns-2 c =
+    let at-row-7 = c .before .before .before .before in
+    let at-enum-told = at-row-7 .before .before .before .before in
+    let at-row-6 = at-enum-told .before .before in
+    let at-start = at-row-6 .before in
+    let a = at-start .args in
+    c .refused2 .ensures ∙ at-7 (tableIn (a .ps)) (eventsIn (a .events .now) (a .t)) (linesIn (a .ofs .now) (a .m) (a .logs .now) (a .n))
+    (kept _ _ (at-row-6 .row-6 .ensures) (at-enum-told .enum-told .given .1)) _
+    (broken _ _ _ (at-row-7 .row-7 .ensures) (c .before .before .line2 .given .1))
 
 returns-3 : tie.Need-returns-3
-returns-3 c = let a = c .before .before .before .before .before .before .before .before .before .before .before .before .before .before .before .args in c .refused3 .ensures ∙ at-8 (tableIn (a .ps)) (eventsIn (a .events .now) (a .t)) (linesIn (a .ofs .now) (a .m) (a .logs .now) (a .n)) (kept _ _ (c .before .before .before .before .before .before .before .before .before .before .before .before .before .before .row-6 .ensures) (c .before .before .before .before .before .before .before .before .before .before .before .before .enum-told .given .1)) (kept _ _ (c .before .before .before .before .before .before .before .before .row-7 .ensures) (c .before .before .before .before .before .before .enum-told2 .given .1)) _ (broken _ _ _ (c .before .before .before .before .row-8 .ensures) (c .before .before .line3 .given .1))
+returns-3 c =
+    let at-row-8 = c .before .before .before .before in
+    let at-enum-told2 = at-row-8 .before .before in
+    let at-row-7 = at-enum-told2 .before .before in
+    let at-enum-told = at-row-7 .before .before .before .before in
+    let at-row-6 = at-enum-told .before .before in
+    let at-start = at-row-6 .before in
+    let a = at-start .args in
+    c .refused3 .ensures ∙ at-8 (tableIn (a .ps)) (eventsIn (a .events .now) (a .t)) (linesIn (a .ofs .now) (a .m) (a .logs .now) (a .n))
+    (kept _ _ (at-row-6 .row-6 .ensures) (at-enum-told .enum-told .given .1))
+    (kept _ _ (at-row-7 .row-7 .ensures) (at-enum-told2 .enum-told2 .given .1)) _
+    (broken _ _ _ (at-row-8 .row-8 .ensures) (c .before .before .line3 .given .1))
 
 returns-4 : tie.Need-returns-4
-returns-4 c = judged _ _ _ _ _ _ _ (c .before .before .before .before .before .before .before .before .before .before .before .before .before .before .before .pre) (kept _ _ (c .before .before .before .before .before .before .before .before .before .before .before .before .before .before .row-6 .ensures) (c .before .before .before .before .before .before .before .before .before .before .before .before .enum-told .given .1)) (kept _ _ (c .before .before .before .before .before .before .before .before .row-7 .ensures) (c .before .before .before .before .before .before .enum-told2 .given .1)) (kept _ _ (c .before .before .before .before .row-8 .ensures) (c .before .before .enum-told3 .given .1)) _ _ (c .result .ensures) (c .before .judge .ensures)
+returns-4 c =
+    let at-row-8 = c .before .before .before .before in
+    let at-enum-told2 = at-row-8 .before .before in
+    let at-row-7 = at-enum-told2 .before .before in
+    let at-enum-told = at-row-7 .before .before .before .before in
+    let at-row-6 = at-enum-told .before .before in
+    let at-start = at-row-6 .before in
+    judged _ _ _ _ _ _ _ (at-start .pre) (kept _ _ (at-row-6 .row-6 .ensures) (at-enum-told .enum-told .given .1))
+    (kept _ _ (at-row-7 .row-7 .ensures) (at-enum-told2 .enum-told2 .given .1))
+    (kept _ _ (at-row-8 .row-8 .ensures) (c .before .before .enum-told3 .given .1)) _ _ (c .result .ensures) (c .before .judge .ensures)
 
 pub audit-report-spec : {M : Type 1} → statement M
 audit-report-spec =

@@ -8,19 +8,66 @@ use Rattle.verifier.proofs.audits.audit_trace.Statement.{statement}
 use Rattle.verifier.proofs.audits.audit_trace.Tie as tie
 
 returns : tie.Need-returns
-returns c = let a = c .before .before .before .before .before .before .args in c .refused .ensures ∙ at-4 (tableIn (a .ps)) (eventsIn (a .events .now) (a .t)) (readReport (a .report .now)) _ (known-in (a .ps) (a .events .now) (a .t) _ (broken _ _ _ (c .before .before .before .before .row-4 .ensures) (c .before .before .line .given .1)))
+returns c =
+    let at-row-4 = c .before .before .before .before in
+    let at-start = at-row-4 .before .before in
+    let a = at-start .args in
+    c .refused .ensures ∙ at-4 (tableIn (a .ps)) (eventsIn (a .events .now) (a .t)) (readReport (a .report .now)) _
+    (known-in (a .ps) (a .events .now) (a .t) _ (broken _ _ _ (at-row-4 .row-4 .ensures) (c .before .before .line .given .1)))
 
 returns-2 : tie.Need-returns-2
-returns-2 c = let a = c .before .before .before .before .before .before .before .before .before .args in c .refused2 .ensures ∙ at-4-open (tableIn (a .ps)) (eventsIn (a .events .now) (a .t)) (readReport (a .report .now)) (known-in (a .ps) (a .events .now) (a .t) _ (kept _ _ (c .before .before .before .before .before .before .before .row-4 .ensures) (c .before .before .before .before .before .enum-told .given .1))) _ (broken _ _ _ (c .before .before .before .before .row-4-open .ensures) (c .before .before .line2 .given .1))
+returns-2 c =
+    let at-row-4-open = c .before .before .before .before in
+    let at-enum-told = at-row-4-open .before in
+    let at-row-4 = at-enum-told .before .before in
+    let at-start = at-row-4 .before .before in
+    let a = at-start .args in
+    c .refused2 .ensures ∙ at-4-open (tableIn (a .ps)) (eventsIn (a .events .now) (a .t)) (readReport (a .report .now))
+    (known-in (a .ps) (a .events .now) (a .t) _ (kept _ _ (at-row-4 .row-4 .ensures) (at-enum-told .enum-told .given .1))) _
+    (broken _ _ _ (at-row-4-open .row-4-open .ensures) (c .before .before .line2 .given .1))
 
 returns-3 : tie.Need-returns-3
-returns-3 c = let a = c .before .before .before .before .before .before .before .before .before .before .before .before .before .before .args in c .refused3 .ensures ∙ at-5 (tableIn (a .ps)) (eventsIn (a .events .now) (a .t)) (readReport (a .report .now)) (known-in (a .ps) (a .events .now) (a .t) _ (kept _ _ (c .before .before .before .before .before .before .before .before .before .before .before .before .row-4 .ensures) (c .before .before .before .before .before .before .before .before .before .before .enum-told .given .1))) (kept _ _ (c .before .before .before .before .before .before .before .before .before .row-4-open .ensures) (c .before .before .before .before .before .before .before .enum-told2 .given .1)) _ (report-bad _ _ _ _ (c .before .before .before .before .read-report .ensures) _ (c .before .before .line3 .given .1))
+returns-3 c =
+    let at-read-report = c .before .before .before .before in
+    let at-enum-told2 = at-read-report .before .before .before in
+    let at-row-4-open = at-enum-told2 .before .before in
+    let at-enum-told = at-row-4-open .before in
+    let at-row-4 = at-enum-told .before .before in
+    let at-start = at-row-4 .before .before in
+    let a = at-start .args in
+    c .refused3 .ensures ∙ at-5 (tableIn (a .ps)) (eventsIn (a .events .now) (a .t)) (readReport (a .report .now))
+    (known-in (a .ps) (a .events .now) (a .t) _ (kept _ _ (at-row-4 .row-4 .ensures) (at-enum-told .enum-told .given .1)))
+    (kept _ _ (at-row-4-open .row-4-open .ensures) (at-enum-told2 .enum-told2 .given .1)) _
+    (report-bad _ _ _ _ (at-read-report .read-report .ensures) _ (c .before .before .line3 .given .1))
 
 audit-report-requires : tie.Need-audit-report-requires
-audit-report-requires c κs = let a = c .before .before .before .before .before .before .before .before .before .before .before .before .before .before .before .args in report-held _ _ _ _ (c .before .before .before .before .before .read-report .ensures) _ _ (c .before .before .before .m .given .1) (a .ps) (a .events .now) (a .t) (c .before .before .before .before .before .before .before .before .before .before .before .before .before .before .before .pre) (known-in (a .ps) (a .events .now) (a .t) _ (kept _ _ (c .before .before .before .before .before .before .before .before .before .before .before .before .before .row-4 .ensures) (c .before .before .before .before .before .before .before .before .before .before .before .enum-told .given .1))) (kept _ _ (c .before .before .before .before .before .before .before .before .before .before .row-4-open .ensures) (c .before .before .before .before .before .before .before .before .enum-told2 .given .1))
+audit-report-requires c κs =
+    let at-m = c .before .before .before in
+    let at-read-report = at-m .before .before in
+    let at-enum-told2 = at-read-report .before .before .before in
+    let at-row-4-open = at-enum-told2 .before .before in
+    let at-enum-told = at-row-4-open .before in
+    let at-row-4 = at-enum-told .before .before in
+    let at-start = at-row-4 .before .before in
+    let a = at-start .args in
+    report-held _ _ _ _ (at-read-report .read-report .ensures) _ _ (at-m .m .given .1) (a .ps) (a .events .now) (a .t) (at-start .pre)
+    (known-in (a .ps) (a .events .now) (a .t) _ (kept _ _ (at-row-4 .row-4 .ensures) (at-enum-told .enum-told .given .1)))
+    (kept _ _ (at-row-4-open .row-4-open .ensures) (at-enum-told2 .enum-told2 .given .1))
 
 returns-4 : tie.Need-returns-4
-returns-4 c = let a = c .before .before .before .before .before .before .before .before .before .before .before .before .before .before .before .before .args in c .audit-report .ensures ∙ past-5 (tableIn (a .ps)) (eventsIn (a .events .now) (a .t)) (readReport (a .report .now)) (known-in (a .ps) (a .events .now) (a .t) _ (kept _ _ (c .before .before .before .before .before .before .before .before .before .before .before .before .before .before .row-4 .ensures) (c .before .before .before .before .before .before .before .before .before .before .before .before .enum-told .given .1))) (kept _ _ (c .before .before .before .before .before .before .before .before .before .before .before .row-4-open .ensures) (c .before .before .before .before .before .before .before .before .before .enum-told2 .given .1)) _ (report-read _ _ _ _ (c .before .before .before .before .before .before .read-report .ensures) _ _ (c .before .before .before .before .m .given .1))
+returns-4 c =
+    let at-m = c .before .before .before .before in
+    let at-read-report = at-m .before .before in
+    let at-enum-told2 = at-read-report .before .before .before in
+    let at-row-4-open = at-enum-told2 .before .before in
+    let at-enum-told = at-row-4-open .before in
+    let at-row-4 = at-enum-told .before .before in
+    let at-start = at-row-4 .before .before in
+    let a = at-start .args in
+    c .audit-report .ensures ∙ past-5 (tableIn (a .ps)) (eventsIn (a .events .now) (a .t)) (readReport (a .report .now))
+    (known-in (a .ps) (a .events .now) (a .t) _ (kept _ _ (at-row-4 .row-4 .ensures) (at-enum-told .enum-told .given .1)))
+    (kept _ _ (at-row-4-open .row-4-open .ensures) (at-enum-told2 .enum-told2 .given .1)) _
+    (report-read _ _ _ _ (at-read-report .read-report .ensures) _ _ (at-m .m .given .1))
 
 pub audit-trace-spec : {M : Type 1} → statement M
 audit-trace-spec =

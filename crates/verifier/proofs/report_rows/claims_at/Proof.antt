@@ -6,7 +6,9 @@ use Rattle.verifier.proofs.report_rows.claims_at.Statement.{statement}
 use Rattle.verifier.proofs.report_rows.claims_at.Tie as tie
 
 returns : tie.Need-returns
-returns c = claims-not _ _ (entryAt (c .before .before .args .logs .now) (c .before .before .args .j)) _ _ (c .before .before .pre .1 .0) (c .before .before .pre .1 .1) (c .if1 .taken)
+returns c =
+    claims-not _ _ (entryAt (c .before .before .args .logs .now) (c .before .before .args .j)) _ _ (c .before .before .pre .1 .0)
+    (c .before .before .pre .1 .1) (c .if1 .taken)
 
 returns-2 : tie.Need-returns-2
 returns-2 c = claims-same _ _ _ _ (c .before .before .before .entry-at .ensures) (c .before .if2 .taken)

@@ -20,10 +20,16 @@ loop-holds : tie.Need-loop-holds Inv-loop μ-loop
 loop-holds c = pass-start
 
 claims-at-requires : tie.Need-claims-at-requires Inv-loop μ-loop
-claims-at-requires c κs = (omega (arith, c .before .before .before .pre .few), (c .before .before .before .pre .claim _ (search needs), c .before .before .pack .ensures))
+claims-at-requires c κs =
+    let at-start = c .before .before .before in
+    (omega (arith, at-start .pre .few), (at-start .pre .claim _ (search needs), c .before .before .pack .ensures))
 
 returns : tie.Need-returns Inv-loop μ-loop
-returns c = claim-found (c .before .before .before .before .before .args .rid) (c .before .before .before .before .before .args .num) (c .before .before .before .loop .inv) (search needs) (sym (c .before .claims-at .ensures) ∙ c .if1 .taken)
+returns c =
+    let at-loop = c .before .before .before in
+    let at-start = at-loop .before .before in
+    claim-found (at-start .args .rid) (at-start .args .num) (at-loop .loop .inv) (search needs)
+    (sym (c .before .claims-at .ensures) ∙ c .if1 .taken)
 
 loop-again : tie.Need-loop-again Inv-loop μ-loop
 loop-again c = pass-on (c .before .before .before .loop .inv) _ refl (search needs) (sym (c .before .claims-at .ensures) ∙ c .if1 .left)

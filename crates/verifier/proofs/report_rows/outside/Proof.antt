@@ -16,10 +16,16 @@ loop-holds : tie.Need-loop-holds Inv-loop μ-loop
 loop-holds c = seek-start
 
 returns : tie.Need-returns Inv-loop μ-loop
-returns c = seek-zero (c .before .before .before .before .before .loop .inv) (search needs) _ (c .before .before .before .of-at .ensures) (c .before .if1 .taken) (c .if2 .taken)
+returns c =
+    let at-of-at = c .before .before .before in
+    let at-loop = at-of-at .before .before in
+    seek-zero (at-loop .loop .inv) (search needs) _ (at-of-at .of-at .ensures) (c .before .if1 .taken) (c .if2 .taken)
 
 returns-2 : tie.Need-returns-2 Inv-loop μ-loop
-returns-2 c = seek-count (c .before .before .before .before .before .before .loop .inv) (search needs) _ (c .before .before .before .before .of-at .ensures) (c .before .before .if1 .taken) (c .before .if2 .left)
+returns-2 c =
+    let at-of-at = c .before .before .before .before in
+    let at-loop = at-of-at .before .before in
+    seek-count (at-loop .loop .inv) (search needs) _ (at-of-at .of-at .ensures) (c .before .before .if1 .taken) (c .before .if2 .left)
 
 loop-again : tie.Need-loop-again Inv-loop μ-loop
 loop-again c = seek-on (c .before .before .before .before .loop .inv) (search needs) _ (c .before .before .of-at .ensures) (c .if1 .left)

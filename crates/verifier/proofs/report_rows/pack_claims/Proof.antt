@@ -11,7 +11,8 @@ use Rattle.verifier.proofs.report_rows.pack_claims.Statement.{statement
 use Rattle.verifier.proofs.report_rows.pack_claims.Tie as tie
 
 abbrev Inv-loop : tie.InvT-loop
-Inv-loop logs n column₀ i₀ column i = (i ≤ n) × (length column ≡ 1024) × ((j : ℕ) → j < i → getD column j 0 ≡ packed (entryAt logs j .rid) (entryAt logs j .num))
+Inv-loop logs n column₀ i₀ column i = (i ≤ n) × (length column ≡ 1024) ×
+    ((j : ℕ) → j < i → getD column j 0 ≡ packed (entryAt logs j .rid) (entryAt logs j .num))
 
 abbrev μ-loop : tie.MeasureT-loop
 μ-loop logs n column₀ i₀ column i = n - i
@@ -20,7 +21,14 @@ loop-holds : tie.Need-loop-holds Inv-loop μ-loop
 loop-holds c = (search needs, search needs, λ j h. absurd (omega arith))
 
 loop-again : tie.Need-loop-again Inv-loop μ-loop
-loop-again c = (search needs, search needs, packed-more _ (c .before .before .before .loop .column) (c .before .before .before .before .args .n) (c .before .before .before .loop .i) _ _ (c .before .entry-at .ensures) (c .pack .ensures) (search needs) (c .before .before .before .loop .inv .2))
+loop-again c =
+    let at-loop = c .before .before .before in
+    let at-start = at-loop .before in (
+      search needs,
+      search needs,
+      packed-more _ (at-loop .loop .column) (at-start .args .n) (at-loop .loop .i) _ _
+          (c .before .entry-at .ensures) (c .pack .ensures) (search needs) (at-loop .loop .inv .2),
+    )
 
 returns : tie.Need-returns Inv-loop μ-loop
 returns c = record { few = c .before .before .pre .0; claim = λ i h. c .before .loop .inv .2 i (omega arith) }

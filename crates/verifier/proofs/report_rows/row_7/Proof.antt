@@ -30,14 +30,21 @@ loop-holds : tie.Need-loop-holds Inv-loop μ-loop Inv-lines μ-lines
 loop-holds c = pass-start
 
 claims-at-requires : tie.Need-claims-at-requires Inv-loop μ-loop Inv-lines μ-lines
-claims-at-requires c κs = (omega (arith, c .before .before .before .before .before .before .before .before .pre .1 .few), (c .before .before .before .before .before .before .before .before .pre .1 .claim _ (search needs), c .before .before .pack .ensures))
+claims-at-requires c κs =
+    let at-start = c .before .before .before .before .before .before .before .before in
+    (omega (arith, at-start .pre .1 .few), (at-start .pre .1 .claim _ (search needs), c .before .before .pack .ensures))
 
 loop-again : tie.Need-loop-again Inv-loop μ-loop Inv-lines μ-lines
 loop-again c = pass-on (c .before .before .before .loop .inv) _ refl (search needs) (sym (c .before .claims-at .ensures) ∙ c .if2 .left)
 
 lines-again : tie.Need-lines-again Inv-loop μ-loop Inv-lines μ-lines
 lines-again c =
-    claims-anew _ _ _ _ (c .before .before .before .before .before .before .before .lines .inv) (search needs) _ (c .before .before .before .before .before .entry-at .ensures) (sym (c .before .before .before .before .outside .ensures) ∙ c .before .before .before .if1 .left)
+    let at-if1 = c .before .before .before in
+    let at-outside = at-if1 .before in
+    let at-entry-at = at-outside .before in
+    let at-lines = at-entry-at .before .before in
+    claims-anew _ _ _ _ (at-lines .lines .inv) (search needs) _ (at-entry-at .entry-at .ensures)
+    (sym (at-outside .outside .ensures) ∙ at-if1 .if1 .left)
     (pass-end (c .before .loop .inv) (search needs))
 
 returns : tie.Need-returns Inv-loop μ-loop Inv-lines μ-lines

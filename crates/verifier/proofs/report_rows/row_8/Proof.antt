@@ -32,10 +32,15 @@ loop-holds : tie.Need-loop-holds Inv-loop μ-loop Inv-lines μ-lines
 loop-holds c = count-start
 
 loop-again : tie.Need-loop-again Inv-loop μ-loop Inv-lines μ-lines
-loop-again c = count-on (c .before .before .before .loop .inv) (search needs) (sym (c .before .is-claimed .ensures) ∙ not-false _ (c .if1 .left))
+loop-again c =
+    let at-loop = c .before .before .before in
+    count-on (at-loop .loop .inv) (search needs) (sym (c .before .is-claimed .ensures) ∙ not-false _ (c .if1 .left))
 
 lines-again : tie.Need-lines-again Inv-loop μ-loop Inv-lines μ-lines
-lines-again c = counts-all _ (c .before .before .before .before .lines .inv) (search needs) _ (c .before .before .of-at .ensures) (count-end (c .before .loop .inv) (search needs))
+lines-again c =
+    let at-lines = c .before .before .before .before in
+    counts-all _ (at-lines .lines .inv) (search needs) _ (c .before .before .of-at .ensures)
+    (count-end (c .before .loop .inv) (search needs))
 
 returns : tie.Need-returns Inv-loop μ-loop Inv-lines μ-lines
 returns c =

@@ -18,10 +18,15 @@ loop-holds : tie.Need-loop-holds Inv-loop μ-loop
 loop-holds c = pass-start
 
 returns : tie.Need-returns Inv-loop μ-loop
-returns c = pass-hit-in (c .before .before .before .before .loop .inv) _ (c .before .before .event-at .ensures) (search needs) (sym (c .before .like .ensures) ∙ c .if1 .taken)
+returns c =
+    let at-loop = c .before .before .before .before in
+    pass-hit-in (at-loop .loop .inv) _ (c .before .before .event-at .ensures) (search needs)
+    (sym (c .before .like .ensures) ∙ c .if1 .taken)
 
 loop-again : tie.Need-loop-again Inv-loop μ-loop
-loop-again c = pass-on (c .before .before .before .before .loop .inv) _ (c .before .before .event-at .ensures) (search needs) (sym (c .before .like .ensures) ∙ c .if1 .left)
+loop-again c =
+    let at-loop = c .before .before .before .before in
+    pass-on (at-loop .loop .inv) _ (c .before .before .event-at .ensures) (search needs) (sym (c .before .like .ensures) ∙ c .if1 .left)
 
 returns-2 : tie.Need-returns-2 Inv-loop μ-loop
 returns-2 c = pass-end-in (c .before .loop .inv) (search needs)

@@ -33,12 +33,17 @@ loop-holds : tie.Need-loop-holds Inv-loop μ-loop Inv-lines μ-lines
 loop-holds c = pass-start
 
 loop-again : tie.Need-loop-again Inv-loop μ-loop Inv-lines μ-lines
-loop-again c = pass-on (c .before .before .before .before .loop .inv) _ (c .before .before .event-at2 .ensures) (search needs) (sym (c .before .like .ensures) ∙ c .if2 .left)
+loop-again c =
+    let at-loop = c .before .before .before .before in
+    pass-on (at-loop .loop .inv) _ (c .before .before .event-at2 .ensures) (search needs) (sym (c .before .like .ensures) ∙ c .if2 .left)
 
 lines-again : tie.Need-lines-again Inv-loop μ-loop Inv-lines μ-lines
 lines-again c =
-    stands _ (c .before .before .before .before .before .before .lines .inv) (search needs) _ (c .before .before .before .before .event-at .ensures)
-    (sym (c .before .before .before .may-stand .ensures) ∙ not-false _ (c .before .before .if1 .left))
+    let at-may-stand = c .before .before .before in
+    let at-event-at = at-may-stand .before in
+    let at-lines = at-event-at .before .before in
+    stands _ (at-lines .lines .inv) (search needs) _ (at-event-at .event-at .ensures)
+    (sym (at-may-stand .may-stand .ensures) ∙ not-false _ (c .before .before .if1 .left))
     (pass-end (c .before .loop .inv) (search needs))
 
 returns : tie.Need-returns Inv-loop μ-loop Inv-lines μ-lines

@@ -21,10 +21,16 @@ loop-holds : tie.Need-loop-holds Inv-loop μ-loop
 loop-holds c = scan-start
 
 returns : tie.Need-returns Inv-loop μ-loop
-returns c = scan-bad (c .before .before .before .before .loop .inv) (search needs) _ (search needs) (settled-event _ _ _ _ (c .before .before .event-at .ensures) ∙ ap not (sym (c .before .settled .ensures)) ∙ c .if1 .taken)
+returns c =
+    let at-loop = c .before .before .before .before in
+    scan-bad (at-loop .loop .inv) (search needs) _ (search needs)
+    (settled-event _ _ _ _ (c .before .before .event-at .ensures) ∙ ap not (sym (c .before .settled .ensures)) ∙ c .if1 .taken)
 
 loop-again : tie.Need-loop-again Inv-loop μ-loop
-loop-again c = scan-on (c .before .before .before .before .loop .inv) (search needs) (settled-event _ _ _ _ (c .before .before .event-at .ensures) ∙ ap not (sym (c .before .settled .ensures)) ∙ c .if1 .left)
+loop-again c =
+    let at-loop = c .before .before .before .before in
+    scan-on (at-loop .loop .inv) (search needs) (settled-event _ _ _ _ (c .before .before .event-at .ensures) ∙ ap not
+    (sym (c .before .settled .ensures)) ∙ c .if1 .left)
 
 returns-2 : tie.Need-returns-2 Inv-loop μ-loop
 returns-2 c = scan-end (c .before .loop .inv) (search needs)
