@@ -1,11 +1,8 @@
 //! Measures the proved functions against this implementation, on the same bytes in one run: time and
 //! instructions.
 
-#![cfg_attr(not(feature = "record"), allow(unused))]
-
 mod batches;
 
-#[cfg(feature = "record")]
 use crate::host;
 use crate::texts::TEXT_LIMIT;
 use crate::{audit, proved};
@@ -18,7 +15,6 @@ use std::time::{Duration, Instant};
 #[derive(Clone, Copy, Debug)]
 enum Function {
     Audit,
-    #[cfg(feature = "record")]
     Record,
 }
 
@@ -57,12 +53,10 @@ impl Subject {
             (Function::Audit, Side::Rust) => {
                 audit::audit(&batch.programs, &batch.trace, &batch.report).verdict
             }
-            #[cfg(feature = "record")]
             (Function::Record, Side::Proved) => {
                 let (trace, report) = (&mut self.trace, &mut self.report);
                 proved::record(&batch.programs, schedule, trace, report).verdict
             }
-            #[cfg(feature = "record")]
             (Function::Record, Side::Rust) => {
                 let recorded = host::record(&batch.programs, schedule, TEXT_LIMIT, TEXT_LIMIT);
                 black_box(&recorded).verdict
@@ -74,13 +68,11 @@ impl Subject {
 const LINES: [usize; 4] = [128, 256, 512, 1_024];
 
 fn subjects() -> Vec<Subject> {
-    let mut subjects = of(Function::Audit, vec![batches::usual(), batches::worst()]);
-    #[cfg(feature = "record")]
-    {
-        let longest = batches::longest_schedule();
-        let inputs = vec![batches::usual(), batches::worst(), longest];
-        subjects.extend(of(Function::Record, inputs));
-    }
+    let audited = vec![batches::usual(), batches::worst()];
+    let longest = batches::longest_schedule();
+    let recorded = vec![batches::usual(), batches::worst(), longest];
+    let mut subjects = of(Function::Audit, audited);
+    subjects.extend(of(Function::Record, recorded));
     subjects
 }
 

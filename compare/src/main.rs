@@ -1,6 +1,8 @@
 //! Compares two implementations of the registry audit and its reference host: this one, written from the
 //! scope paper alone, and the proved one, linked as a static library.
 
+#[cfg(feature = "proved")]
+mod against;
 mod audit;
 #[cfg(feature = "proved")]
 mod bench;
@@ -123,7 +125,7 @@ fn seed_of_the_clock() -> u64 {
 fn checks(options: &Options) -> Result<Vec<Check>, String> {
     let mut checks = checks::ALONE.to_vec();
     if !options.alone {
-        checks.extend(checks::AGAINST_PROVED);
+        checks.extend(against::AGAINST_PROVED);
     }
     Ok(checks)
 }

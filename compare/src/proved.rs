@@ -16,7 +16,6 @@ extern "C" {
         out_length: usize,
     ) -> usize;
 
-    #[cfg(feature = "record")]
     fn teaselshears_record(
         programs: *const u8,
         programs_length: usize,
@@ -65,7 +64,6 @@ pub fn audit_into(batch: &BatchTexts, out: &mut [u64]) -> usize {
 }
 
 /// What the host answers; what it wrote stands in the two buffers.
-#[cfg(feature = "record")]
 #[derive(Clone, Copy, Debug, PartialEq, Eq)]
 pub struct Recorded {
     pub verdict: u64,
@@ -74,7 +72,6 @@ pub struct Recorded {
     pub report_length: usize,
 }
 
-#[cfg(feature = "record")]
 pub fn record(programs: &[u8], schedule: &[u8], trace: &mut [u8], report: &mut [u8]) -> Recorded {
     let mut out = [u64::MAX; NUMBERS];
     let written = record_into(programs, schedule, trace, report, &mut out);
@@ -89,7 +86,6 @@ pub fn record(programs: &[u8], schedule: &[u8], trace: &mut [u8], report: &mut [
 }
 
 /// The run of a schedule with its numbers to the front of `out`: how many were written.
-#[cfg(feature = "record")]
 pub fn record_into(
     programs: &[u8],
     schedule: &[u8],
