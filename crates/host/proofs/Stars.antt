@@ -1,5 +1,5 @@
--- The scope's worked schedules, and the small examples of rows 13 to 16, as texts with what the host makes of them: computed from the
--- meaning.
+-- The scope's worked batches and schedules in one table, as texts with what the audit finds and what the host makes of them, computed from
+-- the meanings by one proof; and the small examples of rows 13 to 16.
 use Prim.Native.Nat.{ℕ, zero, suc}
 use Prim.Native.String.{String}
 use mathlib.Core.List.{List, [], _∷_, _++_, map}
@@ -11,23 +11,24 @@ use Rattle.lines.specs.LineText.{separatorOf, numbersText, lineText}
 use Rattle.lines.specs.Number.{pushOf, digitsOf, numberOf}
 use Rattle.lines.specs.Parts.{onto, parts}
 use Rattle.text.specs.Programs.{addProgram, addDo, readPrograms}
-use Rattle.text.specs.Report.{ofText, entryText, reportText}
+use Rattle.text.specs.Report.{addOf, addLog, readReport, ofText, entryText, reportText}
 use Rattle.text.specs.Schedule.{addArrive, addTurn, readSchedule}
 use Rattle.text.specs.Text.{within, count, linesText, addLine, readLines, readText}
-use Rattle.text.specs.Trace.{eventText, traceText}
+use Rattle.text.specs.Trace.{addRequest, addResponse, readTrace, eventText, traceText}
 use Rattle.writing.specs.Verdict.{verdictText}
 use Rattle.ordering.specs.Maps.{upd}
+use Rattle.ordering.specs.Order.{bump}
 use Rattle.model.specs.Host.{Result, fault, made}
 use Rattle.machine.specs.Instructions.{effectAs}
 use Rattle.machine.specs.Processes.{go}
 use Rattle.machine.specs.Rules.{instructions, programs}
+use Rattle.verifier.specs.Faults.{auditOf}
+use Rattle.verifier.specs.declared.Audited.{Audited}
+use Rattle.verifier.proofs.Stars as audit
+use Rattle.verifier.proofs.Stars.{text, audits, programsABC, traceC, reportC, replies}
 use Rattle.host.specs.Printed.{recordedText}
 use Rattle.host.specs.Recorded.{Texts, batchOf, recordOf, resultOf}
 use Rattle.host.specs.declared.Recorded.{Recorded}
-
-abbrev text : List String → List ℕ
-text [] = []
-text (l ∷ ls) = bytes l ++ 10 ∷ text ls
 
 -- programs and a schedule as their lines, the room for the two texts, and what the host makes of them
 record Case : Type 0 where
@@ -35,62 +36,75 @@ record Case : Type 0 where
   scheduleLines : List String
   roomForTrace : ℕ
   roomForReport : ℕ
-  makes : Result Texts
+  writes : Result Texts
 
 abbrev case : (programs schedule : List String) → (roomForTrace roomForReport : ℕ) → Result Texts → Case
 case programs schedule m n r =
-    record { programLines = programs; scheduleLines = schedule; roomForTrace = m; roomForReport = n; makes = r }
+    record { programLines = programs; scheduleLines = schedule; roomForTrace = m; roomForReport = n; writes = r }
 
 abbrev records : Case → Result Texts
 records c = recordOf (text (c .programLines)) (text (c .scheduleLines)) (c .roomForTrace) (c .roomForReport)
 
-abbrev writes : (trace report : List String) → Result Texts
-writes trace report = made (record { trace = text trace; report = text report })
+abbrev texts : (trace report : List String) → Result Texts
+texts trace report = made (record { trace = text trace; report = text report })
 
 -- ── C's schedule, and the program that never replies ──
-abbrev programsC : List String
-programsC =
-    "program=0" ∷ "do=1,2,1,0" ∷ "do=7,0,2,0" ∷ "do=6,0,1,0" ∷ "do=0,0,0,0"
-    ∷ "program=1" ∷ "do=1,2,1,0" ∷ "do=7,1,2,0" ∷ "do=6,0,0,0" ∷ "do=0,0,0,0" ∷ []
-
 abbrev scheduleC : List String
 scheduleC = "arrive=1,0,0,0" ∷ "arrive=2,1,0,0" ∷ "turn=1" ∷ "turn=2" ∷ "turn=1" ∷ "turn=2" ∷ "turn=1" ∷ "turn=2" ∷ []
 
-abbrev traceC : List String
-traceC = "request=1,0,0,0" ∷ "request=2,1,0,0" ∷ "response=1,0,1" ∷ "response=2,0,1" ∷ []
+abbrev trace : List String
+trace = traceC "response=1,0,1" "response=2,0,1"
 
-abbrev reportC : List String
-reportC = "of=1,0,2" ∷ "of=2,1,2" ∷ "log=0,1,1,7,0,1" ∷ "log=0,2,2,6,0,0" ∷ "log=1,2,1,7,0,1" ∷ "log=1,1,2,6,0,0" ∷ []
+abbrev report : List String
+report = reportC "of=2,1,2" "log=0,1,1,7,0,1"
 
 abbrev writesC : Result Texts
-writesC = writes traceC reportC
+writesC = texts trace report
 
 abbrev programsLoop : List String
 programsLoop = "program=0" ∷ "do=1,2,1,0" ∷ "do=5,2,0,0" ∷ "do=0,0,0,0" ∷ []
 
 abbrev cases : List Case
 cases =
-    case programsC scheduleC 65535 65535 writesC
+    case programsABC scheduleC 65535 65535 writesC
     ∷ case programsLoop ("arrive=1,0,0,0" ∷ "turn=1" ∷ []) 65535 65535
-    (writes ("request=1,0,0,0" ∷ "response=1,1,0" ∷ []) ("of=1,0,0" ∷ []))
+    (texts ("request=1,0,0,0" ∷ "response=1,1,0" ∷ []) ("of=1,0,0" ∷ []))
     ∷ []
 
-stars : map records cases ≡ map (λ c. c .makes) cases
-unfolding recordOf batchOf readPrograms readSchedule readText readLines addLine lineOf fieldsOf fieldOf prefix numberOf digitsOf pushOf
-    parts onto within count addProgram addDo addArrive addTurn programs instructions go effectAs upd
-    traceText reportText linesText eventText ofText entryText lineText numbersText separatorOf decimal digitsIn
+-- ── the table: the audit's batches, then the host's schedules ──
+data Star : Type 0 where
+  batch : audit.Case → Star
+  run : Case → Star
+
+data Meaning : Type 0 where
+  found : Audited → Meaning
+  makes : Result Texts → Meaning
+
+abbrev meaningOf : Star → Meaning
+meaningOf (batch c) = found (audits c)
+meaningOf (run c) = makes (records c)
+
+abbrev expected : Star → Meaning
+expected (batch c) = found (c .finds)
+expected (run c) = makes (c .writes)
+
+abbrev table : List Star
+table = map batch audit.cases ++ map run cases
+
+stars : map meaningOf table ≡ map expected table
+unfolding auditOf recordOf batchOf readPrograms readTrace readReport readSchedule readText readLines addLine lineOf fieldsOf fieldOf prefix
+    numberOf digitsOf pushOf parts onto within count addProgram addDo addRequest addResponse addOf addLog addArrive addTurn programs
+    instructions go effectAs upd bump traceText reportText linesText eventText ofText entryText lineText numbersText separatorOf decimal
+    digitsIn
 stars = refl
 
 -- what the program prints: C's texts behind the verdict lines, and a refusal's verdict lines alone
 printed : map recordedText (writesC ∷ fault 15 1 ∷ [])
-    ≡ text ("verdict=0" ∷ "line=0" ∷ (traceC ++ reportC)) ∷ text ("verdict=15" ∷ "line=1" ∷ []) ∷ []
+    ≡ text ("verdict=0" ∷ "line=0" ∷ (trace ++ report)) ∷ text ("verdict=15" ∷ "line=1" ∷ []) ∷ []
 unfolding recordedText verdictText lineText numbersText separatorOf decimal digitsIn
 printed = refl
 
 -- ── the small examples of rows 1, 2 and 13 to 16 ──
-abbrev replies : List String
-replies = "program=0" ∷ "do=0,0,0,0" ∷ []
-
 -- C's trace has 62 bytes, its report 82
 abbrev small : List Case
 small =
@@ -102,18 +116,18 @@ small =
     ∷ case replies ("arrive=1,1,0,0" ∷ []) 0 0 (fault 14 1)
     ∷ case replies ("arrive=1,0,0,0" ∷ []) 0 0 (fault 15 1)
     ∷ case replies ("arrive=1,0,0,0" ∷ "turn=1" ∷ "arrive=2,0,0,0" ∷ "arrive=3,0,0,0" ∷ []) 0 0 (fault 15 3)
-    ∷ case programsC scheduleC 10 65535 (fault 16 0)
-    ∷ case programsC scheduleC 61 82 (fault 16 0)
-    ∷ case programsC scheduleC 62 81 (fault 16 0)
+    ∷ case programsABC scheduleC 10 65535 (fault 16 0)
+    ∷ case programsABC scheduleC 61 82 (fault 16 0)
+    ∷ case programsABC scheduleC 62 81 (fault 16 0)
     -- room to the byte
-    ∷ case programsC scheduleC 62 82 writesC
+    ∷ case programsABC scheduleC 62 82 writesC
     -- a turn behind the response does nothing
     ∷ case replies ("arrive=1,0,7,0" ∷ "turn=1" ∷ "turn=1" ∷ []) 31 9
-    (writes ("request=1,0,7,0" ∷ "response=1,0,7" ∷ []) ("of=1,0,0" ∷ []))
-    ∷ case [] [] 0 0 (writes [] [])
+    (texts ("request=1,0,7,0" ∷ "response=1,0,7" ∷ []) ("of=1,0,0" ∷ []))
+    ∷ case [] [] 0 0 (texts [] [])
     ∷ []
 
-rows-13-to-16 : map records small ≡ map (λ c. c .makes) small
+rows-13-to-16 : map records small ≡ map (λ c. c .writes) small
 unfolding recordOf batchOf readPrograms readSchedule readText readLines addLine lineOf fieldsOf fieldOf prefix numberOf digitsOf pushOf
     parts onto within count addProgram addDo addArrive addTurn programs instructions go effectAs upd
     traceText reportText linesText eventText ofText entryText lineText numbersText separatorOf decimal digitsIn

@@ -8,5 +8,5 @@ pub mod SameReplays
 pub mod Verdicts
 -- Demand 3 for texts
 pub mod Acceptance
--- Computed examples
-mod Stars
+-- Computed examples, which the host's table takes over
+pub mod Stars

@@ -20,41 +20,41 @@ use Rattle.verifier.specs.Faults.{auditOf}
 use Rattle.verifier.specs.declared.Audited.{Audited}
 
 -- three texts as their lines, and what the audit finds
-record Case : Type 0 where
-  programLines : List String
-  traceLines : List String
-  reportLines : List String
-  finds : Audited
+pub record Case : Type 0 where
+  pub programLines : List String
+  pub traceLines : List String
+  pub reportLines : List String
+  pub finds : Audited
 
-abbrev case : (programs trace report : List String) → Audited → Case
+abbrev pub case : (programs trace report : List String) → Audited → Case
 case programs trace report a = record { programLines = programs; traceLines = trace; reportLines = report; finds = a }
 
-abbrev text : List String → List ℕ
+abbrev pub text : List String → List ℕ
 text [] = []
 text (l ∷ ls) = bytes l ++ 10 ∷ text ls
 
-abbrev audits : Case → Audited
+abbrev pub audits : Case → Audited
 audits c = auditOf (text (c .programLines)) (text (c .traceLines)) (text (c .reportLines))
 
-abbrev accepted : (requests operations : ℕ) → Audited
+abbrev pub accepted : (requests operations : ℕ) → Audited
 accepted requests operations = record { verdict = 0; line = 0; requests = requests; operations = operations }
 
-abbrev refused : (verdict line : ℕ) → Audited
+abbrev pub refused : (verdict line : ℕ) → Audited
 refused verdict line = record { verdict = verdict; line = line; requests = 0; operations = 0 }
 
 -- ── the worked batches ──
-abbrev programsABC : List String
+abbrev pub programsABC : List String
 programsABC =
     "program=0" ∷ "do=1,2,1,0" ∷ "do=7,0,2,0" ∷ "do=6,0,1,0" ∷ "do=0,0,0,0"
     ∷ "program=1" ∷ "do=1,2,1,0" ∷ "do=7,1,2,0" ∷ "do=6,0,0,0" ∷ "do=0,0,0,0" ∷ []
 
-abbrev traceC : (response1 response2 : String) → List String
+abbrev pub traceC : (response1 response2 : String) → List String
 traceC response1 response2 = "request=1,0,0,0" ∷ "request=2,1,0,0" ∷ response1 ∷ response2 ∷ []
 
-abbrev reportC : (of2 log1 : String) → List String
+abbrev pub reportC : (of2 log1 : String) → List String
 reportC of2 log1 = "of=1,0,2" ∷ of2 ∷ log1 ∷ "log=0,2,2,6,0,0" ∷ "log=1,2,1,7,0,1" ∷ "log=1,1,2,6,0,0" ∷ []
 
-abbrev cases : List Case
+abbrev pub cases : List Case
 cases =
     -- C
     case programsABC (traceC "response=1,0,1" "response=2,0,1") (reportC "of=2,1,2" "log=0,1,1,7,0,1") (accepted 2 4)
@@ -81,7 +81,7 @@ unfolding auditOf readPrograms readTrace readReport readText readLines addLine l
 stars = refl
 
 -- ── the small examples of rows 1 to 8 ──
-abbrev replies : List String
+abbrev pub replies : List String
 replies = "program=0" ∷ "do=0,0,0,0" ∷ []
 
 abbrev answered : List String
