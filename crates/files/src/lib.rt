@@ -2,7 +2,8 @@
 // end is said on standard error. And what a program made, written to standard output.
 use libc::STDOUT_FILENO;
 ghost use mathlib.Core.Path.{_≡_};
-ghost use lib.ListN.{take};
+ghost use Prim.Native.Nat.{min};
+ghost use lib.ListN.{length, take};
 ghost use Rattle.io.specs.Counts.{Counts};
 ghost use Rattle.files.specs.Fits.{Fits};
 
@@ -16,6 +17,7 @@ pub enum Got {
 fn within(n: usize, buf: &[u8]) -> usize
     ensures { λ r. ⌜ Counts r (now (buf .entry)) ⌝ }
     ensures { λ r. ⌜ take r (now (buf .entry)) ≡ take n (now (buf .entry)) ⌝ }
+    ensures { λ r. ⌜ r ≡ min n (length (now (buf .entry))) ⌝ }
 {
     if n < buf.len() { n } else { buf.len() }
 }
@@ -84,9 +86,14 @@ pub fn read_file(path: &[u8], buf: &mut [u8]) -> Got
     got
 }
 
-// Writes the first n bytes of a buffer, and says where that fails. What a system call did is beyond a contract.
-pub fn write_front(buf: &[u8], n: usize) {
-    if !io::write_all(STDOUT_FILENO, front(buf, n)) {
+// Writes the first n bytes of a buffer, or all, and says where that fails. The result is how many bytes were to be written; what a system
+// call did is beyond a contract.
+pub fn write_front(buf: &[u8], n: usize) -> usize
+    ensures { λ r. ⌜ r ≡ min n (length (now (buf .entry))) ⌝ }
+{
+    let end = within(n, buf);
+    if !io::write_all(STDOUT_FILENO, &buf[..end]) {
         os::fail(b"standard output");
     }
+    end
 }

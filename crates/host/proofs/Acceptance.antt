@@ -24,6 +24,7 @@ use Rattle.text.specs.declared.trace.Event.{Event}
 use Rattle.text.proofs.RoundTrip.{trace-back, report-back, trace-bound, report-bound}
 use Rattle.ordering.specs.Lists.{All}
 use Rattle.ordering.proofs.Basics.{clash}
+use Rattle.ordering.proofs.Lists.{all-imp}
 use Rattle.model.specs.Batch.{Batch}
 use Rattle.model.specs.Bounds.{Bounded}
 use Rattle.model.specs.Host.{
@@ -106,10 +107,6 @@ all-in : {A : Type 0} (P Q : A → Type 0) → ((x : A) → P x → Q x) → (xs
 all-in P Q f [] h = tt
 all-in P Q f (x ∷ xs) h = (f x (h .0), all-in P Q f xs (h .1))
 
-all-fit : {A : Type 0} (P Q : A → Type 0) → ((x : A) → P x → Q x) → (xs : List A) → All P xs → All Q xs
-all-fit P Q f [] h = tt
-all-fit P Q f (x ∷ xs) h = (f x (h .0), all-fit P Q f xs (h .1))
-
 -- the objects at the start
 start-fit : (o : ℕ) (key : ℕ) → Word (reads (atStart o) key)
 start-fit o key = by (isRegister o)
@@ -185,7 +182,7 @@ module _ (table : List Program) (words : (prog at : ℕ) → Word (instrAt (code
     fit : FitBatch M B Rid 1024 ms b
     fit =
         host-in-range M atStart (known table) 1024 16 (within limit table) B Rid start-fit ms
-        (all-fit MoveIn (FitMove M B Rid) move-fit ms (s .moves)) b e
+        (all-imp MoveIn (FitMove M B Rid) move-fit ms (s .moves)) b e
 
     few-ofs : length (b .ofs) ≤ 64
     few-ofs =
