@@ -46,12 +46,12 @@ fn read_more(fd: i32, buf: &mut [u8], done: usize) -> Got
 }
 
 // Reads until the buffer is full, the file ends or a read fails. A proved loop has to end, so it counts its turns down from a number that
-// no run uses up, since each turn but the last reads a byte.
+// no run uses up: each turn but the last reads a byte, and no buffer that is lent has more than 262,144.
 fn read_all(fd: i32, buf: &mut [u8]) -> Got
     ensures { λ r. ⌜ Fits r (now (buf .exit)) ⌝ }
 {
     let mut done: usize = 0;
-    let mut turns: usize = 65537;
+    let mut turns: usize = 262145;
     while 0 < turns {
         let Got::Bytes(now) = read_more(fd, buf, done) else {
             return Got::Failed;
@@ -65,8 +65,7 @@ fn read_all(fd: i32, buf: &mut [u8]) -> Got
     Got::Failed
 }
 
-// Reads the front of a file into a buffer of at most 65,536 bytes. The programs' buffers have a byte more than a text may have, so that
-// a text that is too long is seen as such.
+// Reads the front of a file into a buffer. For a text it has a byte more than a text may have, so that one that is too long is seen as such.
 pub fn read_file(path: &[u8], buf: &mut [u8]) -> Got
     ensures { λ r. ⌜ Fits r (now (buf .exit)) ⌝ }
 {
