@@ -65,7 +65,8 @@ fn read_all(fd: i32, buf: &mut [u8]) -> Got
     Got::Failed
 }
 
-// Reads the front of a file into a buffer. For a text it has a byte more than a text may have, so that one that is too long is seen as such.
+// Reads the front of a file into a buffer. For a text it has a byte more than a text may have, so that one that is too long is seen as
+// such.
 pub fn read_file(path: &[u8], buf: &mut [u8]) -> Got
     ensures { λ r. ⌜ Fits r (now (buf .exit)) ⌝ }
 {
