@@ -54,11 +54,11 @@ use Rattle.machine.specs.Instance.{codeAt, known, machine}
 use Rattle.machine.specs.Objects.{register, store, reads, isRegister, atStart}
 use Rattle.machine.specs.Processes.{limit, instrAt}
 use Rattle.machine.specs.declared.objects.Cell.the-variants.{Never}
-use Rattle.machine.specs.Rules.{rulingOf}
+use Rattle.machine.specs.Rules.{rulingOf, brokenLine}
 use Rattle.machine.specs.declared.rules.Ruling.the-variants.{Kept, Broken}
 use Rattle.machine.specs.declared.rules.Ruling.{Ruling}
 use Rattle.machine.proofs.Bounds.{Word, within, bounded}
-use Rattle.verifier.specs.Faults.{brokenLine, auditOf}
+use Rattle.verifier.specs.Faults.{auditOf}
 use Rattle.verifier.specs.declared.Audited.{Audited}
 use Rattle.verifier.proofs.Acceptance.{audit-of-accepted}
 use Rattle.host.specs.Accepted.{Accepted}

@@ -20,10 +20,9 @@ use Rattle.text.specs.declared.schedule.Move.{Move}
 use Rattle.ordering.specs.Lists.{All}
 use Rattle.model.specs.Checks.{firstBad}
 use Rattle.model.specs.Host.{Result, fault, close, write, batchOf}
-use Rattle.machine.specs.Rules.{rulingOf}
+use Rattle.machine.specs.Rules.{rulingOf, brokenLine}
 use Rattle.machine.specs.declared.rules.Ruling.the-variants.{Kept, Broken}
 use Rattle.machine.specs.declared.rules.Ruling.{Ruling}
-use Rattle.verifier.specs.Faults.{brokenLine}
 use Rattle.host.specs.Accepted.{Accepted}
 use Rattle.host.specs.Recorded.{andThen, Texts, textsOf, fitted, recordOf, resultOf, RecordIs}
 use Rattle.host.specs.Recorded as recorded

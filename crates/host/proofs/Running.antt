@@ -24,10 +24,10 @@ use Rattle.ordering.proofs.Basics.{clash, byBool}
 use Rattle.model.specs.Host.{Host, empty, broken, on, Result, fault, goOn, stepped}
 use Rattle.model.specs.Ranges.{requestsIn, responsesIn, arrivalsIn}
 use Rattle.model.proofs.Faithful.{Faithful, faithful-empty}
+use Rattle.model.proofs.LineScans.{from, firsts-from, from-next, from-end}
 use Rattle.machine.specs.Instance.{known}
 use Rattle.machine.specs.Objects.{atStart}
 use Rattle.machine.proofs.Passing.{registers-start, index-start}
-use Rattle.verifier.proofs.Scans.{from, firsts-from, from-next, from-end}
 use Rattle.host.specs.Moves.{counts}
 use Rattle.host.specs.Requests.{isOpenIn, progressIn, standingIn}
 use Rattle.host.specs.Runs.{

@@ -16,7 +16,7 @@ ghost use lib.ListN.{length, getD};
 ghost use Rattle.text.specs.Held.{moveAt};
 ghost use Rattle.text.specs.Rows.{firsts};
 ghost use Rattle.model.specs.Checks.{firstBad};
-ghost use Rattle.verifier.specs.Faults.{brokenLine};
+ghost use Rattle.machine.specs.Rules.{brokenLine};
 ghost use Rattle.host.specs.Requests.{waitsIn, standingIn};
 ghost use Rattle.host.specs.Runs.{Ready, RunIs, leftOpen};
 

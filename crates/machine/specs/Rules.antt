@@ -2,6 +2,7 @@
 use Prim.Native.Nat.{ℕ, suc, zero, _+_}
 use mathlib.Core.List.{List, [], _∷_}
 use mathlib.Core.Bool.{Bool, true, false, cond, _&&_, not}
+use mathlib.Core.Option.{Option, none, some}
 use lib.ListN.{getD, length}
 use lib.Dec.{leb, ltb, eqb}
 use Rattle.text.specs.declared.programs.Instr.{Instr}
@@ -89,3 +90,8 @@ ruling (fine line) = Kept
 -- all programs of a text, whose lines count from 1
 abbrev pub rulingOf : List Program → Ruling
 rulingOf ps = ruling (programs ps 0 1)
+
+-- the line that breaks a rule
+abbrev pub brokenLine : Ruling → Option ℕ
+brokenLine Kept = none
+brokenLine (Broken n) = some n

@@ -96,6 +96,11 @@ module _ (ofs : List Of) where
       let c : ltb (countOf ofs (l .rid)) (l .num) ≡ false = le-ltb (countOf ofs (l .rid)) (l .num) (r .0 .high) in
       (rw (n, z, c, f .0), counted7 (l ∷ past) ls (r .1) (u .1) (unique-fresh l past ls (u .0) (f .1)))
 
+-- what row 7 leaves by itself
+pub row7-lines : (b : Batch) → row7 b ≡ none → All (Counted (countOf (b .ofs))) (b .log) × Unique (b .log)
+row7-lines b e =
+    let h = clean7 (b .ofs) [] (b .log) (scan-clean (bad7 (b .ofs)) (suc (length (b .ofs))) [] (b .log) e) in (h .0, h .1)
+
 -- ── row 8 ──
 claimed-full : (log : List Entry) (r n : ℕ) → allClaimed log r n ≡ true → (k : ℕ) → 1 ≤ k → k ≤ n → claimed log r k ≡ true
 claimed-full log r zero e k a b = absurd (omega arith)
@@ -121,7 +126,7 @@ full8 log past (x ∷ xs) h = (rw (full-claimed log (x .rid) (x .count) (h .0)),
 pub rows-reported : (b : Batch) → ((row7 b ≡ none) × (row8 b ≡ none)) ↔ Reported b
 rows-reported b = (
   λ e.
-      let h = clean7 (b .ofs) [] (b .log) (scan-clean (bad7 (b .ofs)) (suc (length (b .ofs))) [] (b .log) (e .0)) in
+      let h = row7-lines b (e .0) in
       record { counted = h .0; unique = h .1; full = clean8 (b .log) [] (b .ofs) (scan-clean (bad8 (b .log)) 1 [] (b .ofs) (e .1)) },
   λ h. (
     clean-scan (bad7 (b .ofs)) (suc (length (b .ofs))) [] (b .log)

@@ -2,6 +2,7 @@
 pub mod Main
 -- The rows of the audit as facts
 pub mod Scans
+pub mod LineScans
 pub mod Trace
 pub mod Claims
 pub mod Equal

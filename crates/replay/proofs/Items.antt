@@ -25,7 +25,7 @@ use Rattle.model.specs.Audit.{leftOver}
 use Rattle.model.specs.Batch.{Batch, countOf}
 use Rattle.model.specs.Checks.{breaks}
 use Rattle.model.specs.Nodes.{Node, ev, ln, lane, rid, num, nodes}
-use Rattle.model.proofs.Claims.{Counted, Reported, counted-mem, rows-reported}
+use Rattle.model.proofs.Claims.{Counted, counted-mem, row7-lines}
 use Rattle.model.proofs.Requests.{Named, events-named}
 use Rattle.replay.specs.Judges.{batchOf, Ready}
 use Rattle.replay.specs.Promises.{FirstFrom, nodeAt, laneIn, numberIn, ItemIs, ItemsTo, Returns}
@@ -117,11 +117,8 @@ module _ (events : List ℕ) (t : ℕ) (ofs : List ℕ) (m : ℕ) (logs : List �
       ∙ map-at ev (eventAt events) t (i - n) none (omega arith)))
 
   module _ (low : t ≤ 128) (few : m ≤ 64) (known : ℕ → Bool) (ready : Ready known batch) where
-    reported : Reported batch
-    reported = rows-reported batch .0 (ready .none-to-8 .3, ready .none-to-8 .4)
-
     counted : (i : ℕ) → i < n → Counted (countOf (batch .ofs)) (entryAt logs i)
-    counted i h = firsts-all (Counted (countOf (batch .ofs))) (entryAt logs) n i (reported .counted) h
+    counted i h = firsts-all (Counted (countOf (batch .ofs))) (entryAt logs) n i (row7-lines batch (ready .none-to-7 .3) .0) h
 
     -- a request with an `of` line has its slot
     slotted : (r s : ℕ) → Named batch r → FirstFrom (λ i. eqb (ofAt ofs i .rid) r) 0 m s → s < m

@@ -134,7 +134,7 @@ module _ (table : List Program) (events : List ℕ) (t : ℕ) (ofs : List ℕ) (
         program-below : start .prog < 16
         program-below = ready .programs (start .prog) (ap (λ x. known (x .prog)) e
             ∙ known-opens known r (eventAt events s) opened
-            (firsts-all (KnownIn known) (eventAt events) t s (row4-order known (batch .trace) .0 (ready .none-to-8 .0) .1) arrived))
+            (firsts-all (KnownIn known) (eventAt events) t s (row4-order known (batch .trace) .0 (ready .none-to-7 .0) .1) arrived))
 
       module _ (s′ : ℕ) (g : FirstFrom (λ i. closes r (eventAt events i)) 0 t s′) (reply : Said) (e : reply ≡ replyOf (eventAt events s′))
         where
@@ -144,7 +144,7 @@ module _ (table : List Program) (events : List ℕ) (t : ℕ) (ofs : List ℕ) (
               t s′ (eventAt events)
               tt g (ltb-false s′ t h) in
               let d = answered-opens (batch .trace) r (eventAt events s) opened
-              (firsts-all (AnsweredIn (batch .trace)) (eventAt events) t s (row4-answered (batch .trace) .0 (ready .none-to-8 .1)) arrived)
+              (firsts-all (AnsweredIn (batch .trace)) (eventAt events) t s (row4-answered (batch .trace) .0 (ready .none-to-7 .1)) arrived)
               in cc))
 
           response-is : responseOf (batch .trace) r ≡ said (reply .status) (reply .value)

@@ -8,10 +8,12 @@ pub mod Items
 -- The log lines that claim operations
 pub mod Links
 pub mod Claimed
+-- Row 8
+pub mod Counting
 -- Rows 10 to 12
 pub mod Replaying
 pub mod Paths
 pub mod Rows
 pub mod Judging
--- Rows 9 to 12 in their order
+-- Rows 8 to 12 in their order
 pub mod Faults

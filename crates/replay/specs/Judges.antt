@@ -1,6 +1,7 @@
--- The first fault of rows 9 to 12, of a batch that stands in arrays.
+-- The first fault of rows 8 to 12, of a batch that stands in arrays.
 use mathlib.Core.Bool.{Bool, true}
 use mathlib.Core.List.{List, _∷_}
+use mathlib.Core.Option.{none}
 use mathlib.Core.Path.{_≡_}
 use Prim.Native.Nat.{ℕ, _≤_, _<_, min}
 use Rattle.text.specs.Held.{eventAt, ofAt, entryAt}
@@ -8,7 +9,7 @@ use Rattle.text.specs.Rows.{firsts}
 use Rattle.text.specs.declared.programs.Program.{Program}
 use Rattle.text.specs.declared.programs.Programs.{Programs}
 use Rattle.ordering.specs.Lists.{All}
-use Rattle.model.specs.Audit.{row9, replayChecks, NoneTo8}
+use Rattle.model.specs.Audit.{row4, row4Open, row6, row7, row8, row9, replayChecks}
 use Rattle.model.specs.Batch.{Batch}
 use Rattle.model.specs.Checks.{Check, check, verdict, firstFault}
 use Rattle.model.specs.Machine.{Machine}
@@ -25,10 +26,10 @@ batchOf events t ofs m logs n = record { trace = firsts (eventAt events) t; ofs 
 abbrev pub batchIn : (events : List ℕ) (t : ℕ) (ofs : List ℕ) (m : ℕ) (logs : List ℕ) (n : ℕ) → Batch
 batchIn events t ofs m logs n = batchOf events (min t 128) ofs (min m 64) logs (min n 1024)
 
--- What is known of a batch when row 9 is looked at: no row from 4 to 8 holds, there are at most 16 programs, and objects and counts are in
+-- What is known of a batch when row 8 is looked at: no row from 4 to 7 holds, there are at most 16 programs, and objects and counts are in
 -- the range of a readable report.
 pub record Ready (known : ℕ → Bool) (b : Batch) : Type 0 where
-  pub none-to-8 : NoneTo8 known b
+  pub none-to-7 : (row4 known (b .trace) ≡ none) × (row4Open (b .trace) ≡ none) × (row6 b ≡ none) × (row7 b ≡ none)
   pub programs : (prog : ℕ) → known prog ≡ true → prog < 16
   pub objects : All (λ l. l .op .object < 16) (b .log)
   pub counts : All (λ x. x .count ≤ 256) (b .ofs)
@@ -37,11 +38,11 @@ pub record Ready (known : ℕ → Bool) (b : Batch) : Type 0 where
 abbrev pub machineOf : List Program → Machine
 machineOf table = machine limit table
 
--- rows 9 to 12 in their order
+-- rows 8 to 12 in their order
 abbrev pub checks : List Program → Batch → List Check
-checks table b = check 9 (row9 b) ∷ replayChecks (machineOf table) atStart b 1 (b .ofs)
+checks table b = check 8 (row8 b) ∷ check 9 (row9 b) ∷ replayChecks (machineOf table) atStart b 1 (b .ofs)
 
--- The fault r is the first of rows 9 to 12. What r is of a batch that is not ready is left free.
+-- The fault r is the first of rows 8 to 12. What r is of a batch that is not ready is left free.
 abbrev pub Judges : Programs → (events : List ℕ) (t : ℕ) (ofs : List ℕ) (m : ℕ) (logs : List ℕ) (n : ℕ) → Fault → Type 0
 Judges ps events t ofs m logs n r = (known : ℕ → Bool) → Ready known (batchIn events t ofs m logs n) →
     verdict (r .row) (r .line) ≡ firstFault (checks (ps .table) (batchIn events t ofs m logs n))

@@ -50,7 +50,7 @@ fn is_claim(logs: &[u64; 6144], i: usize, rid: u64, num: u64) -> bool
 }
 
 // The line that claims an operation, or n.
-fn claim_at(
+pub(crate) fn claim_at(
     logs: &[u64; 6144],
     n: usize,
     heads: &[u16; 1024],

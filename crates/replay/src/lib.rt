@@ -1,11 +1,14 @@
-// Rows 9 to 12 of the audit, on a batch that stands in arrays: the order, and the replay of each request.
+// Rows 8 to 12 of the audit, on a batch that stands in arrays: the counts, the order, and the replay of each request.
 mod claims;
+mod counts;
 mod lookups;
 mod orders;
 mod replays;
 mod requests;
 
 use claims::prepare;
+use counts::row_8;
+use machine::Ruling;
 use orders::returns;
 use requests::judge_requests;
 use text::Programs;
@@ -13,7 +16,7 @@ ghost use mathlib.Core.Path.{_≡_};
 ghost use Prim.Native.Nat.{min};
 ghost use Rattle.replay.specs.Judges.{Judges};
 
-// The first fault of rows 9 to 12: row 0 and line 0 where there is none.
+// The first fault of rows 8 to 12: row 0 and line 0 where there is none.
 pub struct Fault {
     pub row: u64,
     pub line: u64,
@@ -40,12 +43,21 @@ pub fn judge(
     let t = least(t, 128);
     let m = least(m, 64);
     let n = least(n, 1024);
-    if returns(events, t, ofs, m, logs, n) {
-        return Fault { row: 9, line: 0 };
-    }
     let mut heads = [1024u16; 1024];
     let mut afters = [0u16; 1024];
     let mut answers = [0u64; 1024];
     prepare(logs, n, &mut heads, &mut afters, &mut answers);
+    match row_8(ofs, m, logs, n, &heads, &afters) {
+        Ruling::Broken(line) => {
+            return Fault {
+                row: 8,
+                line: line as u64,
+            };
+        }
+        Ruling::Kept => {}
+    }
+    if returns(events, t, ofs, m, logs, n) {
+        return Fault { row: 9, line: 0 };
+    }
     judge_requests(ps, events, t, ofs, m, logs, n, &heads, &afters, &answers)
 }

@@ -1,5 +1,5 @@
 -- Laws that the functions' proofs cite
-pub mod Scans
+pub mod Searches
 pub mod TraceScans
 pub mod ReportScans
 pub mod PrintedLines

@@ -1,5 +1,5 @@
--- Rows 6, 7 and 8 in the terms of their scans.
-use Prim.Native.Nat.{ℕ, zero, suc, _+_, _-_, _≤_, _<_}
+-- Rows 6 and 7 in the terms of their scans.
+use Prim.Native.Nat.{ℕ, suc, _+_, _-_, _≤_, _<_}
 use mathlib.Core.Bool.{Bool, true, false, not, _||_}
 use mathlib.Core.List.{List, [], _∷_}
 use mathlib.Core.Path.{_≡_, refl, sym, ap, _∙_}
@@ -16,13 +16,14 @@ use Rattle.text.specs.declared.trace.Event.the-variants.{Request, Response}
 use Rattle.text.specs.declared.trace.Event.{Event}
 use Rattle.text.proofs.RowLaws.{firsts-length}
 use Rattle.ordering.proofs.Basics.{byBool, byEq, eqb-yes, eqb-no, yes-eqb, and-true}
-use Rattle.model.specs.Audit.{row6From, bad7, row7, allClaimed, bad8}
+use Rattle.model.specs.Audit.{row6From, bad7, row7}
 use Rattle.model.specs.Batch.{named, countOf, claims, claimed}
 use Rattle.model.specs.Checks.{firstBad}
+use Rattle.model.proofs.LineScans.{above, from, firsts-from, from-next, from-end, Scanned, scan-on, scan-bad, scan-end}
+use Rattle.machine.specs.Rules.{brokenLine}
 use Rattle.machine.specs.declared.rules.Ruling.the-variants.{Kept, Broken}
-use Rattle.verifier.specs.Faults.{brokenLine}
 use Rattle.verifier.specs.Steps.{any, beyond, packed, reported}
-use Rattle.verifier.proofs.Scans.{or-true, above, from, firsts-from, from-next, from-end, Passed, pass-hit-in, pass-end-in, Scanned, scan-on, scan-bad, scan-end}
+use Rattle.verifier.proofs.Searches.{or-true}
 
 -- ── row 6: the first i of t events and the first j of m `of` lines go together ──
 pub record Matching (e : ℕ → Event) (f : ℕ → Of) (t m i j : ℕ) : Type 0 where
@@ -108,14 +109,6 @@ claimed-any : (ls : List Entry) (r k : ℕ) → claimed ls r k ≡ any (claims r
 claimed-any [] r k = refl
 claimed-any (l ∷ ls) r k = ap (λ b. claims r k l || b) (claimed-any ls r k)
 
--- the search for a claim
-module _ (r k : ℕ) {f : ℕ → Entry} {n j : ℕ} (s : Passed (claims r k) f n j) where
-  pub claim-found : j < n → claims r k (f j) ≡ true → true ≡ claimed (firsts f n) r k
-  claim-found h e = pass-hit-in s (f j) refl h e ∙ sym (claimed-any (firsts f n) r k)
-
-  pub claim-none : n ≤ j → false ≡ claimed (firsts f n) r k
-  claim-none h = pass-end-in s h ∙ sym (claimed-any (firsts f n) r k)
-
 -- m is line l, whose rid is looked at first
 pub claims-same : (r k : ℕ) (l m : Entry) → l ≡ m → l .rid ≡ r → eqb (l .num) k ≡ claims r k m
 claims-same r k l m e d = rw (← e, eqb-yes d)
@@ -186,30 +179,3 @@ module _ (ofs : List ℕ) (m : ℕ) (logs : List ℕ) (n : ℕ) where
 
     pub claims-anew : out ≡ false → any (claims (l .rid) (l .num)) upward ≡ false → Scanned7 (i + 1)
     claims-anew d g = scan-on s h (bad-is ∙ rw (d, g))
-
--- ── row 8: the operations of a request, n in all, looked for from the last downward; k are left ──
-pub record Counting (log : List Entry) (r n k : ℕ) : Type 0 where
-  pub same : allClaimed log r k ≡ allClaimed log r n
-
-pub count-start : {log : List Entry} {r n : ℕ} → Counting log r n n
-count-start = record { same = refl }
-
-module _ {log : List Entry} {r n : ℕ} where
-  pub count-on : {k : ℕ} → Counting log r n k → 0 < k → claimed log r k ≡ true → Counting log r n (k - 1)
-  count-on {k = zero} s h e = absurd (omega arith)
-  count-on {k = suc k} s h e = let z : suc k - 1 ≡ k = omega arith in record { same = rw z (rw e at (s .same)) }
-
-  pub count-not : {k : ℕ} → Counting log r n k → 0 < k → claimed log r k ≡ false → allClaimed log r n ≡ false
-  count-not {k = zero} s h e = absurd (omega arith)
-  count-not {k = suc k} s h e = sym (rw e at (s .same))
-
-  pub count-end : {k : ℕ} → Counting log r n k → k ≤ 0 → allClaimed log r n ≡ true
-  count-end {k} s h = let z : k ≡ 0 = omega arith in sym (rw z at (s .same))
-
--- `of` line i, which is x
-module _ (log : List Entry) {f : ℕ → Of} {m i : ℕ} (s : Scanned (bad8 log) f 1 m i) (h : i < m) (x : Of) (e : x ≡ f i) where
-  pub counts-more : allClaimed log (x .rid) (x .count) ≡ false → brokenLine (Broken (i + 1)) ≡ firstBad (bad8 log) 1 [] (firsts f m)
-  counts-more d = scan-bad s h (i + 1) (omega arith) (rw (← e, d))
-
-  pub counts-all : allClaimed log (x .rid) (x .count) ≡ true → Scanned (bad8 log) f 1 m (i + 1)
-  counts-all d = scan-on s h (rw (← e, d))

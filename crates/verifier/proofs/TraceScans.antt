@@ -9,10 +9,11 @@ use Rattle.text.specs.declared.trace.Event.the-variants.{Request, Response}
 use Rattle.text.specs.declared.trace.Event.{Event}
 use Rattle.model.specs.Audit.{bad4, row4, unanswered}
 use Rattle.model.specs.Batch.{requested, answered}
+use Rattle.model.proofs.LineScans.{above, Scanned, scan-on, scan-bad}
+use Rattle.machine.specs.Rules.{brokenLine}
 use Rattle.machine.specs.declared.rules.Ruling.the-variants.{Broken}
-use Rattle.verifier.specs.Faults.{brokenLine}
 use Rattle.verifier.specs.Steps.{any, alike, mayStand, settles}
-use Rattle.verifier.proofs.Scans.{or-true, above, any-firsts, Scanned, scan-on, scan-bad}
+use Rattle.verifier.proofs.Searches.{or-true, any-firsts}
 
 -- the rid of an event is all that counts
 requested-any : (r p x y : ℕ) (es : List Event) → requested r es ≡ any (λ d. alike d (Request r p x y)) es

@@ -33,14 +33,14 @@ use Rattle.model.proofs.Trace.{Matching, row4-order, row6-matching}
 use Rattle.machine.specs.Instance.{known, machine}
 use Rattle.machine.specs.Objects.{atStart}
 use Rattle.machine.specs.Processes.{limit}
-use Rattle.machine.specs.Rules.{rulingOf}
+use Rattle.machine.specs.Rules.{rulingOf, brokenLine}
 use Rattle.machine.specs.declared.rules.Ruling.the-variants.{Kept, Broken}
 use Rattle.machine.specs.declared.rules.Ruling.{Ruling}
 use Rattle.machine.proofs.Tables.{same-code}
 use Rattle.replay.specs.Judges.{batchIn, Ready, checks, Judges}
 use Rattle.replay.specs.declared.Fault.{Fault}
 use Rattle.verifier.specs.Accepts.{Accepts}
-use Rattle.verifier.specs.Faults.{badLine, contents, brokenLine, row2, batchOf, audited, auditedOf, auditOf}
+use Rattle.verifier.specs.Faults.{badLine, contents, row2, batchOf, audited, auditedOf, auditOf}
 use Rattle.verifier.specs.Steps.{
   refusal,
   tableIn,
@@ -108,13 +108,11 @@ module _ (table : List Program) (events : List Event) (lines : Report) where
   pub at-7 : row6 b ≡ none → (line : ℕ) → row7 b ≡ some line → refusal 7 line ≡ auditedReport table events lines
   at-7 d line e = ap counted (second-holds 6 7 8 (row6 b) (row7 b) (row8 b) behind8 d line e)
 
-  pub at-8 : row6 b ≡ none → row7 b ≡ none → (line : ℕ) → row8 b ≡ some line → refusal 8 line ≡ auditedReport table events lines
-  at-8 d f line e = ap counted (third-holds 6 7 8 (row6 b) (row7 b) (row8 b) behind8 d f line e)
+  past-7 : row6 b ≡ none → row7 b ≡ none →
+      firstFault (check 8 (row8 b) ∷ behind8) ≡ firstFault (reportChecks (machine limit table) atStart b)
+  past-7 d f = λ i. firstFault (check 6 (sym d i) ∷ check 7 (sym f i) ∷ check 8 (row8 b) ∷ behind8)
 
-  past-8 : row6 b ≡ none → row7 b ≡ none → row8 b ≡ none → firstFault behind8 ≡ firstFault (reportChecks (machine limit table) atStart b)
-  past-8 d f e = none-holds 6 7 8 (row6 b) (row7 b) (row8 b) behind8 d f e
-
--- rows 9 to 12 of what stands in the arrays
+-- rows 8 to 12 of what stands in the arrays
 module _ (ps : Programs) (events : List ℕ) (t : ℕ) (ofs : List ℕ) (m : ℕ) (logs : List ℕ) (n : ℕ) (h : ReportHeld ps events t ofs m logs n) where
   abbrev batch : Batch
   batch = batchOf (eventsIn events t) (linesIn ofs m logs n)
@@ -132,11 +130,11 @@ module _ (ps : Programs) (events : List ℕ) (t : ℕ) (ofs : List ℕ) (m : ℕ
   below : (prog : ℕ) → known table prog ≡ true → prog < ps .n
   below prog e = omega (arith, ltb-true prog (length table) e, firsts-length (programAt (ps .table)) (ps .n))
 
-  module _ (e6 : row6 batch ≡ none) (e7 : row7 batch ≡ none) (e8 : row8 batch ≡ none) where
+  module _ (e6 : row6 batch ≡ none) (e7 : row7 batch ≡ none) where
     ready : Ready (known table) batch
     ready =
         record {
-          none-to-8 = (h .lines4, h .answered4, e6, e7, e8);
+          none-to-7 = (h .lines4, h .answered4, e6, e7);
           programs = λ prog e. omega (arith, below prog e, h .held .programs);
           objects = h .ranges .objects;
           counts = h .ranges .counts;
@@ -152,7 +150,8 @@ module _ (ps : Programs) (events : List ℕ) (t : ℕ) (ofs : List ℕ) (m : ℕ
         let c : m ≡ count isRequest (eventsIn events t) =
         sym (firsts-length (ofAt ofs) m) ∙ matching-count (eventsIn events t) (firsts (ofAt ofs) m) (row6-matching batch .0 e6) in
         let o : n ≡ length (firsts (entryAt logs) n) = sym (firsts-length (entryAt logs) n) in
-        let w = v ∙ ap (λ cs. firstFault (check 9 (row9 batch) ∷ cs)) s ∙ past-8 table (eventsIn events t) (linesIn ofs m logs n) e6 e7 e8 in
+        let w = v ∙ ap (λ cs. firstFault (check 8 (row8 batch) ∷ check 9 (row9 batch) ∷ cs)) s
+        ∙ past-7 table (eventsIn events t) (linesIn ofs m logs n) e6 e7 in
         g ∙ (λ i. audited (w i) (c i) (o i))
 
 -- ── rows 4 and 5 ──

@@ -17,9 +17,7 @@ use Rattle.model.specs.Checks.{Verdict, Check, check, firstFault}
 use Rattle.machine.specs.Instance.{known, machine}
 use Rattle.machine.specs.Objects.{atStart}
 use Rattle.machine.specs.Processes.{limit}
-use Rattle.machine.specs.Rules.{rulingOf}
-use Rattle.machine.specs.declared.rules.Ruling.the-variants.{Kept, Broken}
-use Rattle.machine.specs.declared.rules.Ruling.{Ruling}
+use Rattle.machine.specs.Rules.{rulingOf, brokenLine}
 use Rattle.verifier.specs.declared.Audited.{Audited}
 
 -- the unreadable line of a text, and what was read: of an unreadable text, as of an empty one, nothing
@@ -30,11 +28,6 @@ badLine (unreadable n) = some n
 abbrev pub contents : {S : Type 0} → S → Read S → S
 contents empty (readable x) = x
 contents empty (unreadable n) = empty
-
--- the line that breaks a rule
-abbrev pub brokenLine : Ruling → Option ℕ
-brokenLine Kept = none
-brokenLine (Broken n) = some n
 
 -- Row 2: a program rule broken.
 abbrev pub row2 : List Program → Option ℕ

@@ -3,7 +3,6 @@ use crate::Audited;
 use crate::report_rows::pack_claims;
 use crate::report_rows::row_6;
 use crate::report_rows::row_7;
-use crate::report_rows::row_8;
 use crate::trace_rows::row_4;
 use crate::trace_rows::row_4_open;
 use machine::Ruling;
@@ -36,7 +35,7 @@ fn refused(verdict: u64, line: usize) -> Audited
     }
 }
 
-// What rows 9 to 12 leave of a batch with these counts.
+// What rows 8 to 12 leave of a batch with these counts.
 fn result(f: Fault, requests: usize, operations: usize) -> Audited
     ensures { λ r. ⌜ r ≡ audited (verdict (f .row) (f .line)) requests operations ⌝ }
 {
@@ -81,12 +80,6 @@ fn audit_report(
     match row_7(ofs, m, logs, n, &column) {
         Ruling::Broken(line) => {
             return refused(7, line);
-        }
-        Ruling::Kept => {}
-    }
-    match row_8(ofs, m, logs, n, &column) {
-        Ruling::Broken(line) => {
-            return refused(8, line);
         }
         Ruling::Kept => {}
     }

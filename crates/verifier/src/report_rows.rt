@@ -1,4 +1,4 @@
-// Rows 6, 7 and 8, over a trace and a report that were read.
+// Rows 6 and 7, over a trace and a report that were read.
 use machine::Ruling;
 use text::Event;
 use text::entry_at;
@@ -9,9 +9,9 @@ ghost use Prim.Native.Nat.{_<_, _≤_};
 ghost use lib.ListN.{length, getD};
 ghost use Rattle.text.specs.Held.{eventAt, ofAt, entryAt};
 ghost use Rattle.text.specs.Rows.{firsts};
-ghost use Rattle.model.specs.Audit.{row6From, row7, row8};
-ghost use Rattle.model.specs.Batch.{claims, claimed};
-ghost use Rattle.verifier.specs.Faults.{brokenLine};
+ghost use Rattle.model.specs.Audit.{row6From, row7};
+ghost use Rattle.model.specs.Batch.{claims};
+ghost use Rattle.machine.specs.Rules.{brokenLine};
 ghost use Rattle.verifier.specs.Steps.{beyond, packed, Packed, reported};
 
 // Row 6: `of` lines are not one per request in arrival order.
@@ -139,53 +139,6 @@ pub(crate) fn row_7(
     }
     if i < n {
         Ruling::Broken(m + 1 + i)
-    } else {
-        Ruling::Kept
-    }
-}
-
-// Whether one of the first n log lines claims operation num of request rid.
-fn is_claimed(logs: &[u64; 6144], n: usize, column: &[u64; 1024], rid: u64, num: u64) -> bool
-    requires { ⌜ Packed (now logs) n (now column) ⌝ }
-    ensures { λ r. ⌜ r ≡ claimed (firsts (entryAt (now (logs .entry))) n) rid num ⌝ }
-{
-    let p = pack(rid, num);
-    let mut j: usize = 0;
-    while j < n {
-        if claims_at(logs, column, j, p, rid, num) {
-            return true;
-        }
-        j += 1;
-    }
-    false
-}
-
-// Row 8: an operation within the count has no log line.
-pub(crate) fn row_8(
-    ofs: &[u64; 192],
-    m: usize,
-    logs: &[u64; 6144],
-    n: usize,
-    column: &[u64; 1024],
-) -> Ruling
-    requires { ⌜ Packed (now logs) n (now column) ⌝ }
-    ensures { λ r. ⌜ brokenLine r ≡ row8 (reported (now (ofs .entry)) m (now (logs .entry)) n) ⌝ }
-{
-    let mut i: usize = 0;
-    'lines: while i < m {
-        let x = of_at(ofs, i);
-        let rid = x.rid;
-        let mut k = x.count;
-        while 0 < k {
-            if !is_claimed(logs, n, column, rid, k) {
-                break 'lines;
-            }
-            k -= 1;
-        }
-        i += 1;
-    }
-    if i < m {
-        Ruling::Broken(i + 1)
     } else {
         Ruling::Kept
     }

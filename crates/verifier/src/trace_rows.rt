@@ -7,7 +7,7 @@ ghost use lib.Dec.{ltb};
 ghost use Rattle.text.specs.Held.{eventAt};
 ghost use Rattle.text.specs.Rows.{firsts};
 ghost use Rattle.model.specs.Audit.{row4, row4Open};
-ghost use Rattle.verifier.specs.Faults.{brokenLine};
+ghost use Rattle.machine.specs.Rules.{brokenLine};
 ghost use Rattle.verifier.specs.Steps.{alike, hasLike, mayStand, settles};
 
 // Whether two events are of one kind and one rid.

@@ -3,7 +3,7 @@ use Prim.Native.Nat.{_-_}
 use mathlib.Core.Path.{sym, ap, _∙_}
 use native.Mathlib.Omega.{arith}
 use Rattle.text.specs.Held.{moveAt}
-use Rattle.verifier.proofs.Scans.{Scanned, scan-start, scan-on, scan-bad, scan-end}
+use Rattle.model.proofs.LineScans.{Scanned, scan-start, scan-on, scan-bad, scan-end}
 use Rattle.host.specs.Runs.{leftOpen}
 use borrow.Author.Needs.{needs}
 use Rattle.host.proofs.runs.row_15.Statement.{statement}

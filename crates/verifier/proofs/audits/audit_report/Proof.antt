@@ -1,7 +1,7 @@
 -- `audit_report` meets its contract.
 use mathlib.Core.Path.{_∙_}
 use Rattle.verifier.specs.Steps.{tableIn, eventsIn, linesIn}
-use Rattle.verifier.proofs.Verdicts.{broken, kept, at-6, at-7, at-8, judged}
+use Rattle.verifier.proofs.Verdicts.{broken, kept, at-6, at-7, judged}
 use borrow.Author.Needs.{needs}
 use Rattle.verifier.proofs.audits.audit_report.Statement.{statement}
 use Rattle.verifier.proofs.audits.audit_report.Tie as tie
@@ -27,29 +27,13 @@ returns-2 c =
 
 returns-3 : tie.Need-returns-3
 returns-3 c =
-    let at-row-8 = c .before .before .before .before in
-    let at-enum-told2 = at-row-8 .before .before in
-    let at-row-7 = at-enum-told2 .before .before in
-    let at-enum-told = at-row-7 .before .before .before .before in
-    let at-row-6 = at-enum-told .before .before in
-    let at-start = at-row-6 .before in
-    let a = at-start .args in
-    c .refused3 .ensures ∙ at-8 (tableIn (a .ps)) (eventsIn (a .events .now) (a .t)) (linesIn (a .ofs .now) (a .m) (a .logs .now) (a .n))
-    (kept _ _ (at-row-6 .row-6 .ensures) (at-enum-told .enum-told .given .1))
-    (kept _ _ (at-row-7 .row-7 .ensures) (at-enum-told2 .enum-told2 .given .1)) _
-    (broken _ _ _ (at-row-8 .row-8 .ensures) (c .before .before .line3 .given .1))
-
-returns-4 : tie.Need-returns-4
-returns-4 c =
-    let at-row-8 = c .before .before .before .before in
-    let at-enum-told2 = at-row-8 .before .before in
+    let at-enum-told2 = c .before .before in
     let at-row-7 = at-enum-told2 .before .before in
     let at-enum-told = at-row-7 .before .before .before .before in
     let at-row-6 = at-enum-told .before .before in
     let at-start = at-row-6 .before in
     judged _ _ _ _ _ _ _ (at-start .pre) (kept _ _ (at-row-6 .row-6 .ensures) (at-enum-told .enum-told .given .1))
-    (kept _ _ (at-row-7 .row-7 .ensures) (at-enum-told2 .enum-told2 .given .1))
-    (kept _ _ (at-row-8 .row-8 .ensures) (c .before .before .enum-told3 .given .1)) _ _ (c .result .ensures) (c .before .judge .ensures)
+    (kept _ _ (at-row-7 .row-7 .ensures) (at-enum-told2 .enum-told2 .given .1)) _ _ (c .result .ensures) (c .before .judge .ensures)
 
 pub audit-report-spec : {M : Type 1} → statement M
 audit-report-spec =
@@ -67,10 +51,5 @@ audit-report-spec =
     returns-2
     (λ c. search needs)
     (λ c κs. search needs)
-    (λ c. search needs)
     (λ c κs. search needs)
-    returns-3
-    (λ c. search needs)
-    (λ c κs. search needs)
-    (λ c κs. search needs)
-    returns-4)
+    returns-3)

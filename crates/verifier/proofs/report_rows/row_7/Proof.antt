@@ -5,7 +5,8 @@ use mathlib.Core.Path.{refl, sym, _∙_}
 use native.Mathlib.Omega.{arith}
 use Rattle.text.specs.Held.{entryAt}
 use Rattle.model.specs.Batch.{claims}
-use Rattle.verifier.proofs.Scans.{Passed, pass-start, pass-on, pass-hit, pass-end, scan-start}
+use Rattle.model.proofs.LineScans.{scan-start}
+use Rattle.verifier.proofs.Searches.{Passed, pass-start, pass-on, pass-hit, pass-end}
 use Rattle.verifier.proofs.ReportScans.{Scanned7, claims-end, claims-beyond, claims-twice, claims-anew}
 use borrow.Author.Needs.{needs}
 use Rattle.verifier.proofs.report_rows.row_7.Statement.{statement}

@@ -3,7 +3,7 @@ use Prim.Native.Nat.{_-_}
 use mathlib.Core.Path.{sym, _∙_}
 use Rattle.text.specs.Held.{eventAt}
 use Rattle.verifier.specs.Steps.{alike}
-use Rattle.verifier.proofs.Scans.{Passed, pass-start, pass-on, pass-hit-in, pass-end-in}
+use Rattle.verifier.proofs.Searches.{Passed, pass-start, pass-on, pass-hit-in, pass-end-in}
 use borrow.Author.Needs.{needs}
 use Rattle.verifier.proofs.trace_rows.has_like.Statement.{statement}
 use Rattle.verifier.proofs.trace_rows.has_like.Tie as tie

@@ -8,7 +8,8 @@ use lib.Dec.{ltb}
 use Rattle.text.specs.Held.{eventAt}
 use Rattle.model.specs.Audit.{bad4}
 use Rattle.verifier.specs.Steps.{alike}
-use Rattle.verifier.proofs.Scans.{Passed, pass-start, pass-on, pass-hit, pass-end, Scanned, scan-start, scan-end}
+use Rattle.model.proofs.LineScans.{Scanned, scan-start, scan-end}
+use Rattle.verifier.proofs.Searches.{Passed, pass-start, pass-on, pass-hit, pass-end}
 use Rattle.verifier.proofs.TraceScans.{stands-not, stands-twice, stands}
 use borrow.Author.Needs.{needs}
 use Rattle.verifier.proofs.trace_rows.row_4.Statement.{statement}

@@ -5,7 +5,7 @@ use mathlib.Core.Bool.{not}
 use Rattle.text.specs.Held.{eventAt}
 use Rattle.text.specs.Rows.{firsts}
 use Rattle.model.specs.Audit.{unanswered}
-use Rattle.verifier.proofs.Scans.{Scanned, scan-start, scan-on, scan-bad, scan-end}
+use Rattle.model.proofs.LineScans.{Scanned, scan-start, scan-on, scan-bad, scan-end}
 use Rattle.verifier.proofs.TraceScans.{settled-event}
 use borrow.Author.Needs.{needs}
 use Rattle.verifier.proofs.trace_rows.row_4_open.Statement.{statement}

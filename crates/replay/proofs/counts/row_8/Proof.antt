@@ -7,23 +7,23 @@ use borrow.Author.Tests.{not-true, not-false}
 use Rattle.text.specs.Held.{ofAt, entryAt}
 use Rattle.text.specs.Rows.{firsts}
 use Rattle.model.specs.Audit.{bad8}
-use Rattle.verifier.proofs.Scans.{Scanned, scan-start, scan-end}
-use Rattle.verifier.proofs.ReportScans.{Counting, count-start, count-on, count-not, count-end, counts-more, counts-all}
+use Rattle.model.proofs.LineScans.{Scanned, scan-start, scan-end}
+use Rattle.replay.proofs.Counting.{Counting, count-start, count-on, count-not, count-end, counts-more, counts-all}
 use borrow.Author.Needs.{needs}
-use Rattle.verifier.proofs.report_rows.row_8.Statement.{statement}
-use Rattle.verifier.proofs.report_rows.row_8.Tie as tie
+use Rattle.replay.proofs.counts.row_8.Statement.{statement}
+use Rattle.replay.proofs.counts.row_8.Tie as tie
 
 abbrev Inv-loop : tie.InvT-loop
-Inv-loop ofs m logs n column i rid k₀ k = Counting (firsts (entryAt logs) n) rid k₀ k
+Inv-loop ofs m logs n heads afters i rid k₀ k = Counting (firsts (entryAt logs) n) rid k₀ k
 
 abbrev μ-loop : tie.MeasureT-loop
-μ-loop ofs m logs n column i rid k₀ k = k
+μ-loop ofs m logs n heads afters i rid k₀ k = k
 
 abbrev Inv-lines : tie.InvT-lines
-Inv-lines ofs m logs n column i₀ i = Scanned (bad8 (firsts (entryAt logs) n)) (ofAt ofs) 1 m i
+Inv-lines ofs m logs n heads afters i₀ i = Scanned (bad8 (firsts (entryAt logs) n)) (ofAt ofs) 1 m i
 
 abbrev μ-lines : tie.MeasureT-lines
-μ-lines ofs m logs n column i₀ i = m - i
+μ-lines ofs m logs n heads afters i₀ i = m - i
 
 lines-holds : tie.Need-lines-holds Inv-loop μ-loop Inv-lines μ-lines
 lines-holds c = scan-start

@@ -1,0 +1,62 @@
+// Row 8: an operation within the count has no log line.
+use crate::claims::claim_at;
+use machine::Ruling;
+use text::of_at;
+ghost use mathlib.Core.List.{[]};
+ghost use mathlib.Core.Path.{_≡_};
+ghost use Prim.Native.Nat.{_≤_};
+ghost use Rattle.text.specs.Held.{ofAt, entryAt};
+ghost use Rattle.text.specs.Rows.{firsts};
+ghost use Rattle.model.specs.Audit.{bad8};
+ghost use Rattle.model.specs.Batch.{claimed};
+ghost use Rattle.model.specs.Checks.{firstBad};
+ghost use Rattle.machine.specs.Rules.{brokenLine};
+ghost use Rattle.replay.specs.Promises.{Linked};
+
+// Whether one of the first n log lines claims operation num of request rid.
+fn is_claimed(
+    logs: &[u64; 6144],
+    n: usize,
+    heads: &[u16; 1024],
+    afters: &[u16; 1024],
+    rid: u64,
+    num: u64,
+) -> bool
+    requires { ⌜ (n ≤ 1024) × Linked (entryAt (now logs)) n 0 (now heads) (now afters) ⌝ }
+    ensures { λ r. ⌜ r ≡ claimed (firsts (entryAt (now (logs .entry))) n) rid num ⌝ }
+{
+    claim_at(logs, n, heads, afters, rid, num) < n
+}
+
+// The first `of` line that counts an operation without a log line.
+pub(crate) fn row_8(
+    ofs: &[u64; 192],
+    m: usize,
+    logs: &[u64; 6144],
+    n: usize,
+    heads: &[u16; 1024],
+    afters: &[u16; 1024],
+) -> Ruling
+    requires { ⌜ (n ≤ 1024) × Linked (entryAt (now logs)) n 0 (now heads) (now afters) ⌝ }
+    ensures { λ r. ⌜ brokenLine r
+        ≡ firstBad (bad8 (firsts (entryAt (now (logs .entry))) n)) 1 [] (firsts (ofAt (now (ofs .entry))) m) ⌝ }
+{
+    let mut i: usize = 0;
+    'lines: while i < m {
+        let x = of_at(ofs, i);
+        let rid = x.rid;
+        let mut k = x.count;
+        while 0 < k {
+            if !is_claimed(logs, n, heads, afters, rid, k) {
+                break 'lines;
+            }
+            k -= 1;
+        }
+        i += 1;
+    }
+    if i < m {
+        Ruling::Broken(i + 1)
+    } else {
+        Ruling::Kept
+    }
+}
