@@ -2,14 +2,15 @@
 use Prim.Native.Nat.{ℕ, _<_, _≤_}
 use mathlib.Core.Bool.{Bool, cond}
 use mathlib.Core.List.{List}
-use mathlib.Core.Path.{_≡_, sym, ap, _∙_}
-use lib.ListN.{length}
+use mathlib.Core.Path.{_≡_, sym, ap, subst, _∙_}
+use lib.ListN.{length, getD}
 use borrow.Author.Tests.{lt-ltb, le-ltb}
 use Rattle.lines.specs.Put.{front}
 use Rattle.model.specs.Host.{Result}
+use Rattle.host.specs.Accepted.{Accepted}
 use Rattle.host.specs.Recorded.{Texts, resultOf, RecordIs}
 use Rattle.host.specs.declared.Recorded.{Recorded}
-use Rattle.export.specs.Numbers.{ifRoom, handed, recordNumbers, RecordHanded}
+use Rattle.export.specs.Numbers.{ifRoom, handed, recordNumbers, recordFrom, RecordHanded}
 
 module _ {A : Type 0} (s : List ℕ) (x y : A) where
   pub no-room : length s < 4 → y ≡ ifRoom s x y
@@ -42,3 +43,12 @@ module _ (x : Result Texts) (trace report s : List ℕ) where
         traceBytes = in-room s _ _ (i .traceBytes) h;
         reportBytes = in-room s _ _ (i .reportBytes) h;
       }
+
+-- what the host promises of an accepted run holds of the numbers that were handed out
+pub handed-accepted : (programs schedule traceAfter reportAfter s u : List ℕ) (r : Recorded) → u ≡ front (recordNumbers r) s →
+    ((r .verdict ≡ 0) → Accepted programs schedule traceAfter reportAfter r) → getD u 0 0 ≡ 0 →
+    Accepted programs schedule traceAfter reportAfter (recordFrom u)
+unfolding front
+handed-accepted programs schedule traceAfter reportAfter s u r e h z =
+    let d : recordFrom u ≡ r = ap recordFrom e in
+    subst (Accepted programs schedule traceAfter reportAfter) (sym d) (h (sym (ap (λ r. r .verdict) d) ∙ z))

@@ -4,7 +4,7 @@ use mathlib.Core.Bool.{cond}
 use mathlib.Core.List.{List, [], _∷_}
 use mathlib.Core.Path.{_≡_}
 use lib.Dec.{ltb}
-use lib.ListN.{length}
+use lib.ListN.{length, getD}
 use Rattle.lines.specs.Put.{front}
 use Rattle.model.specs.Host.{Result}
 use Rattle.verifier.specs.declared.Audited.{Audited}
@@ -25,6 +25,10 @@ auditNumbers a = a .verdict ∷ a .line ∷ a .requests ∷ a .operations ∷ []
 
 abbrev pub recordNumbers : Recorded → List ℕ
 recordNumbers r = r .verdict ∷ r .line ∷ r .«trace_len» ∷ r .«report_len» ∷ []
+
+-- and a result out of its numbers
+abbrev pub recordFrom : List ℕ → Recorded
+recordFrom v = record { verdict = getD v 0 0; line = getD v 1 0; «trace_len» = getD v 2 0; «report_len» = getD v 3 0 }
 
 -- the host's result and its texts: in out its numbers, in each buffer its text over the front of what it held, and r numbers in all; where
 -- out is too short everything is as it was

@@ -7,8 +7,9 @@ ghost use mathlib.Core.Logic.{_↔_};
 ghost use lib.ListN.{getD, length};
 ghost use Rattle.verifier.specs.Accepts.{Accepts};
 ghost use Rattle.verifier.specs.Faults.{auditOf};
+ghost use Rattle.host.specs.Accepted.{Accepted};
 ghost use Rattle.host.specs.Recorded.{recordOf};
-ghost use Rattle.export.specs.Numbers.{ifRoom, handed, auditNumbers, RecordHanded};
+ghost use Rattle.export.specs.Numbers.{ifRoom, handed, auditNumbers, recordFrom, RecordHanded};
 
 // The verdict on three texts: verdict, line, requests and operations to the front of out. The result is how many numbers were
 // written: four, or none where out is too short for them.
@@ -43,9 +44,11 @@ pub extern "C" fn teaselshears_record(
     report: &mut [u8],
     out: &mut [u64],
 ) -> usize
-    ensures { λ r. ⌜ RecordHanded
+    ensures meaning { λ r. ⌜ RecordHanded
         (recordOf (now (programs .entry)) (now (schedule .entry)) (length (now (trace .entry))) (length (now (report .entry))))
         (now (trace .entry)) (now (report .entry)) (now (out .entry)) (now (trace .exit)) (now (report .exit)) (now (out .exit)) r ⌝ }
+    ensures accepted { λ r. ⌜ ((r ≡ 4) → (getD (now (out .exit)) 0 0 ≡ 0) → Accepted (now (programs .entry)) (now (schedule .entry))
+        (now (trace .exit)) (now (report .exit)) (recordFrom (now (out .exit)))) ⌝ }
 {
     if out.len() < 4 {
         return 0;

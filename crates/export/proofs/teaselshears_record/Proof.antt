@@ -1,17 +1,21 @@
 -- `teaselshears_record` meets its contract: the numbers of the run in front of out and its texts in front of the buffers, or nothing.
-use Rattle.export.proofs.Rooms.{not-handed, record-handed}
+use native.Mathlib.Omega.{arith}
+use Rattle.export.proofs.Rooms.{not-handed, record-handed, handed-accepted}
 use borrow.Author.Needs.{needs}
 use Rattle.export.proofs.teaselshears_record.Statement.{statement}
 use Rattle.export.proofs.teaselshears_record.Tie as tie
 
 returns : tie.Need-returns
-returns c = not-handed _ _ _ _ (c .if1 .taken)
+returns c = (not-handed _ _ _ _ (c .if1 .taken), λ e. absurd (omega (arith, e)))
 
 returns-2 : tie.Need-returns-2
 returns-2 c =
-    record-handed _ _ _ _ _ _ _ _ (c .before .before .before .before .before .before .before .before .«record» .ensures .0)
-    (c .before .before .fill-four .ensures)
-    (c .before .before .before .before .before .before .before .before .before .before .before .if1 .left)
+    let f = c .before .before .fill-four .ensures in
+    let r = c .before .before .before .before .before .before .before .before in
+    let h = r .before .before .before .if1 .left in (
+      record-handed _ _ _ _ _ _ _ _ (r .«record» .ensures .0) f h,
+      λ e z. handed-accepted _ _ _ _ _ _ _ f (r .«record» .ensures .1) z,
+    )
 
 pub teaselshears-record-spec : {M : Type 1} → statement M
 teaselshears-record-spec =
