@@ -8,7 +8,7 @@ use native.Mathlib.Omega.{arith}
 use lib.Dec.{ltb}
 use lib.ListN.{getD, set}
 use borrow.Author.Tests.{lt-ltb, ltb-true, ltb-false}
-use Rattle.text.specs.Held.{programAt, moveAt}
+use Rattle.text.specs.Held.{programAt, moveAt, tableIn}
 use Rattle.text.specs.Rows.{row}
 use Rattle.text.specs.declared.programs.Programs.{Programs}
 use Rattle.text.specs.declared.schedule.Move.the-variants.{Arrive}
@@ -23,7 +23,7 @@ use Rattle.machine.specs.Instance.{known}
 use Rattle.machine.specs.Objects.{atStart}
 use Rattle.host.specs.Moves.{Arrived, ArriveIs}
 use Rattle.host.specs.Requests.{isOpenIn}
-use Rattle.host.specs.Runs.{missing, seenSlot, M, seen, RidIn, tableIn}
+use Rattle.host.specs.Runs.{missing, seenSlot, M, seen, RidIn}
 use Rattle.host.specs.declared.steps.Counts.{Counts}
 use Rattle.host.specs.declared.steps.Step.the-variants.{Broken, On}
 use Rattle.host.specs.declared.steps.Step.{Step}

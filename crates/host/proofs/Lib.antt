@@ -1,13 +1,12 @@
 -- The worked schedules, computed (Stars); what was read is in range (Readings); what is written stands in front of
 -- the buffers (Fronts), is accepted (Acceptance) and printed (PrintedTexts);
--- and the laws that functions rest on: of row 16 (Fitting), of a turn (Going), of the log by object (Picking, Sorting).
+-- and the laws that functions rest on: of row 16 (Fitting), of the log by object (Picking, Sorting).
 mod Stars
 pub mod Readings
 pub mod Fronts
 pub mod Acceptance
 pub mod PrintedTexts
 pub mod Fitting
-pub mod Going
 pub mod Picking
 pub mod Sorting
 pub mod States

@@ -7,7 +7,7 @@ use mathlib.Core.Path.{_≡_, refl, sym, ap, subst, _∙_}
 use native.Mathlib.Omega.{arith}
 use lib.ListN.{length, replicate}
 use Rattle.lines.specs.Put.{front}
-use Rattle.text.specs.Held.{linesIn, readIn, moveAt, programAt, programsIn, ProgramsIs, ScheduleIs}
+use Rattle.text.specs.Held.{linesIn, readIn, moveAt, programAt, programsIn, ProgramsIs, ScheduleIs, tableIn}
 use Rattle.text.specs.Programs.{readPrograms}
 use Rattle.text.specs.Rows.{firsts}
 use Rattle.text.specs.Schedule.{readSchedule}
@@ -17,6 +17,7 @@ use Rattle.text.specs.declared.kinds.Lines.{Lines}
 use Rattle.text.specs.declared.programs.Programs.{Programs}
 use Rattle.text.specs.declared.schedule.Move.the-variants.{Arrive, Turn}
 use Rattle.text.specs.declared.schedule.Move.{Move}
+use Rattle.text.proofs.ProgramsReading.{table-read}
 use Rattle.ordering.specs.Lists.{All}
 use Rattle.model.specs.Checks.{firstBad}
 use Rattle.model.specs.Host.{Result, fault, close, write, batchOf}
@@ -26,7 +27,7 @@ use Rattle.machine.specs.declared.rules.Ruling.{Ruling}
 use Rattle.host.specs.Accepted.{Accepted}
 use Rattle.host.specs.Recorded.{andThen, Texts, textsOf, fitted, recordOf, resultOf, RecordIs}
 use Rattle.host.specs.Recorded as recorded
-use Rattle.host.specs.Runs.{leftOpen, M, RidIn, tableIn, movesIn, ran, recordedMoves, Scheduled, Ready, Finished, RunIs}
+use Rattle.host.specs.Runs.{leftOpen, M, RidIn, movesIn, ran, recordedMoves, Scheduled, Ready, Finished, RunIs}
 use Rattle.host.specs.Steps.{heldTexts, Sorted}
 use Rattle.host.specs.declared.Recorded.{Recorded}
 use Rattle.host.specs.declared.runs.Run.the-variants.{Breaks, Ends}
@@ -106,10 +107,6 @@ module _ (s schedule : List ℕ) (u v : ℕ) (ps : Programs) (h : ProgramsIs s p
   at-1 e = let z : unreadable (ps .line) ≡ readPrograms s = rw e at (h .read) in rw (← z) refl
 
   module _ (ok : ps .ok ≡ true) where
-    table-read : readable (tableIn ps) ≡ readPrograms s
-    unfolding programsIn
-    table-read = rw ok at (h .read)
-
     module _ (r : Ruling) (e : r ≡ rulingOf (firsts (programAt (ps .table)) (min (ps .n) 16))) where
       rules : r ≡ rulingOf (tableIn ps)
       rules =
@@ -120,7 +117,7 @@ module _ (s schedule : List ℕ) (u v : ℕ) (ps : Programs) (h : ProgramsIs s p
       unfolding recordOf recorded.batchOf
       at-2 line d =
           let z : rulingOf (tableIn ps) ≡ Broken line = sym rules ∙ d in
-          rw (← table-read, z) refl
+          rw (← table-read s ps h ok, z) refl
 
       module _ (k : r ≡ Kept) (l : Lines) (moves arrivals : List ℕ) (g : ScheduleIs schedule l moves arrivals) where
         z : rulingOf (tableIn ps) ≡ Kept
@@ -130,7 +127,7 @@ module _ (s schedule : List ℕ) (u v : ℕ) (ps : Programs) (h : ProgramsIs s p
         unfolding recordOf recorded.batchOf readIn
         at-13 line d =
             let w : unreadable line ≡ readSchedule schedule = sym (ap (readIn (moveAt moves arrivals)) d) ∙ g .read in
-            rw (← table-read, z, ← w) refl
+            rw (← table-read s ps h ok, z, ← w) refl
 
         module _ (n : ℕ) (d : l ≡ Readable n) where
           moves-read : readSchedule schedule ≡ readable (movesIn moves arrivals n)
@@ -139,7 +136,7 @@ module _ (s schedule : List ℕ) (u v : ℕ) (ps : Programs) (h : ProgramsIs s p
 
           pub past-13 : recordOf s schedule u v ≡ recordedMoves (tableIn ps) (movesIn moves arrivals n) u v
           unfolding recordOf recorded.batchOf
-          past-13 = rw (← table-read, z, moves-read) refl
+          past-13 = rw (← table-read s ps h ok, z, moves-read) refl
 
           pub scheduled : Scheduled ps moves arrivals n
           scheduled =

@@ -10,7 +10,7 @@ use native.Mathlib.Omega.{arith}
 use lib.Dec.{ltb}
 use lib.ListN.{length, getD, replicate, length-replicate, getD-replicate}
 use borrow.Author.Tests.{ltb-true, ltb-false}
-use Rattle.text.specs.Held.{noProgram, Bounded, eventAt, moveAt}
+use Rattle.text.specs.Held.{noProgram, Bounded, eventAt, moveAt, tableIn}
 use Rattle.text.specs.Rows.{row, firsts}
 use Rattle.text.specs.declared.programs.Program.{Program}
 use Rattle.text.specs.declared.programs.Programs.{Programs}
@@ -39,7 +39,6 @@ use Rattle.host.specs.Runs.{
   EventsIs,
   LinesIs,
   RidIn,
-  tableIn,
   movesIn,
   ranFrom,
   ran,

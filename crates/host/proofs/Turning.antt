@@ -12,7 +12,7 @@ use lib.ListN.{length, getD}
 use borrow.Author.Tests.{lt-ltb, le-ltb, ltb-true, ltb-false}
 use Rattle.lines.specs.Place.{cells}
 use Rattle.lines.proofs.FieldLaws.{cells-all}
-use Rattle.text.specs.Held.{noProgram, programAt, ofAt, entryAt, moveAt}
+use Rattle.text.specs.Held.{noProgram, programAt, ofAt, entryAt, moveAt, tableIn}
 use Rattle.text.specs.Rows.{row, withRow}
 use Rattle.text.specs.declared.programs.Instr.{Instr}
 use Rattle.text.specs.declared.programs.Program.{Program}
@@ -42,7 +42,7 @@ use Rattle.machine.proofs.Locals.{go-length, resumed-length}
 use Rattle.machine.proofs.Tables.{same-code, go-same}
 use Rattle.host.specs.Moves.{progress, counts, lineOf, joined, ReplyIs, NextIs, wentOn, TurnIs}
 use Rattle.host.specs.Requests.{stateNumbers, progressIn, localsIn, standingIn}
-use Rattle.host.specs.Runs.{going, over, seenRow, seenSlot, M, seen, LinesIs, RidIn, ranFrom, tableIn}
+use Rattle.host.specs.Runs.{going, over, seenRow, seenSlot, M, seen, LinesIs, RidIn, ranFrom}
 use Rattle.host.specs.declared.requests.Progress.{Progress}
 use Rattle.host.specs.declared.requests.Standing.the-variants.{Missing, Idle, Open}
 use Rattle.host.specs.declared.requests.Standing.{Standing}

@@ -5,7 +5,7 @@ use mathlib.Core.List.{List, [], _∷_}
 use mathlib.Core.Path.{_≡_}
 use lib.ListN.{length, getD, replicate}
 use Rattle.text.specs.Formats.{mostEntries}
-use Rattle.text.specs.Held.{noProgram, programAt, Bounded, eventAt, ofAt, moveAt}
+use Rattle.text.specs.Held.{noProgram, Bounded, eventAt, ofAt, moveAt, tableIn}
 use Rattle.text.specs.Rows.{row, firsts}
 use Rattle.text.specs.declared.programs.Program.{Program}
 use Rattle.text.specs.declared.programs.Programs.{Programs}
@@ -98,9 +98,6 @@ pub record LinesIs (logs : List ℕ) (k : ℕ) (lines : ℕ → List Entry) : Ty
 abbrev pub RidIn : Move → Type 0
 RidIn (Arrive r prog a b) = r < 65536
 RidIn (Turn r) = Unit {0}
-
-abbrev pub tableIn : Programs → List Program
-tableIn ps = firsts (programAt (ps .table)) (ps .n)
 
 abbrev pub movesIn : (moves arrivals : List ℕ) (n : ℕ) → List Move
 movesIn moves arrivals n = firsts (moveAt moves arrivals) n

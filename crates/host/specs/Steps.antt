@@ -23,11 +23,6 @@ heldTexts events n ofs m logs k =
       report = reportText (reportOf ofs (min m 64) logs (min k 1024));
     }
 
--- a request that has gone on by the instructions of its program: its locals, and where it stands
-pub record WentOn (code : List Instr) (l : List ℕ) (at done : ℕ) (lAfter : List ℕ) (r : Stop) : Type 0 where
-  pub locals : lAfter ≡ advanceOf limit code l at done .locals
-  pub stop : r ≡ advanceOf limit code l at done .stop
-
 -- the lines of one object among the first n of logs
 abbrev pub linesOf : (logs : List ℕ) (n object : ℕ) → List Entry
 linesOf logs n object = logOf object (firsts (entryAt logs) n)

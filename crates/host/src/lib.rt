@@ -6,7 +6,6 @@ mod records;
 mod requests;
 mod runs;
 mod steps;
-mod turns;
 
 pub use printing::record_text;
 pub use records::record;

@@ -14,9 +14,10 @@ use text::read_programs;
 use text::read_schedule;
 ghost use mathlib.Core.Path.{_≡_};
 ghost use lib.ListN.{length};
+ghost use Rattle.text.specs.Held.{tableIn};
 ghost use Rattle.host.specs.Accepted.{Accepted};
 ghost use Rattle.host.specs.Recorded.{recordOf, RecordIs};
-ghost use Rattle.host.specs.Runs.{tableIn, movesIn, Scheduled, recordedMoves};
+ghost use Rattle.host.specs.Runs.{movesIn, Scheduled, recordedMoves};
 
 // Rows 14 to 16, of programs and a schedule of n lines that were read.
 fn record_moves(

@@ -8,9 +8,9 @@ use crate::requests::put_of;
 use crate::requests::put_slot;
 use crate::requests::put_state;
 use crate::requests::slot_of;
-use crate::turns::go_on;
+use machine::LIMIT;
 use machine::Next;
-use machine::Stop;
+use machine::advance;
 use machine::first_locals;
 use machine::perform;
 use machine::resume;
@@ -177,7 +177,7 @@ fn reply(
     }
 }
 
-// A turn of the open request in slot s, whose program is p.
+// A turn of the open request in slot s, whose program is p. The host keeps no path, so what the machine marks of one is dropped.
 pub(crate) fn turn(
     p: Program,
     c: Counts,
@@ -200,7 +200,8 @@ pub(crate) fn turn(
 {
     let was = progress_at(states, s);
     let mut l = locals_at(states, s);
-    let stop = go_on(p, &mut l, was.at, was.done);
+    let mut path = [0u8; 1];
+    let stop = advance(p, &mut l, was.at, was.done, &mut path, LIMIT);
     let x = Progress {
         prog: was.prog,
         at: stop.at,

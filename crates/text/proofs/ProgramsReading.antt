@@ -16,7 +16,7 @@ use Rattle.text.specs.Text.{readable, unreadable, readText}
 use Rattle.text.specs.Formats.{programLine, doLine}
 use Rattle.text.specs.Programs.{instrFrom, begun, withInstr, inFrontOf, addProgram, addDo, programKinds, readPrograms}
 use Rattle.text.specs.Rows.{firsts}
-use Rattle.text.specs.Held.{noInstr, noProgram, trimmed, programAt, programsIn, Bounded, ProgramsIs}
+use Rattle.text.specs.Held.{noInstr, noProgram, trimmed, programAt, programsIn, Bounded, ProgramsIs, tableIn}
 use Rattle.text.specs.Steps.{eitherAt, toldIn, unreadablePrograms}
 use Rattle.text.specs.declared.kinds.Line.{Line}
 use Rattle.text.specs.declared.kinds.Line.the-variants.{First, Second, Neither}
@@ -264,3 +264,8 @@ module _ {s : List ℕ} {table : List Program} {number : ℕ} {code : List Instr
                     ∙ r .current .blank q (omega (arith, a));
               };
             }
+
+-- ── what was read is what the table holds ──
+pub table-read : (s : List ℕ) (ps : Programs) → ProgramsIs s ps → ps .ok ≡ true → readable (tableIn ps) ≡ readPrograms s
+unfolding programsIn
+table-read s ps h ok = rw ok at (h .read)

@@ -103,8 +103,12 @@ trimmed p = record { number = p .number; n = p .n; code = take (p .n) (p .code) 
 unfoldable pub programAt : List Program → ℕ → Program
 programAt table i = trimmed (getD table i noProgram)
 
+-- the programs that a table holds
+abbrev pub tableIn : Programs → List Program
+tableIn r = firsts (programAt (r .table)) (r .n)
+
 unfoldable pub programsIn : Programs → Read (List Program)
-programsIn r = cond (r .ok) (readable (firsts (programAt (r .table)) (r .n))) (unreadable (r .line))
+programsIn r = cond (r .ok) (readable (tableIn r)) (unreadable (r .line))
 
 -- n is at most 64, and nothing stands behind the n instructions
 pub record Bounded (p : Program) : Type 0 where

@@ -9,7 +9,7 @@ use native.Mathlib.Omega.{arith}
 use borrow.Author.Tests.{ltb-true}
 use lib.Dec.{ltb}
 use lib.ListN.{length}
-use Rattle.text.specs.Held.{eventAt, ofAt, entryAt, readIn, reportIn, programAt, programsIn, TraceIs, ReportIs, ProgramsIs, ofsIn, logsIn}
+use Rattle.text.specs.Held.{eventAt, ofAt, entryAt, readIn, reportIn, programAt, programsIn, TraceIs, ReportIs, ProgramsIs, ofsIn, logsIn, tableIn}
 use Rattle.text.specs.Held as held
 use Rattle.text.specs.Programs.{readPrograms}
 use Rattle.text.specs.Report.{Report, readReport}
@@ -25,6 +25,7 @@ use Rattle.text.specs.declared.report.ReportLines.the-variants.{Counts, BadLine
 use Rattle.text.specs.declared.report.ReportLines.{ReportLines}
 use Rattle.text.specs.declared.trace.Event.the-variants.{Request, Response}
 use Rattle.text.specs.declared.trace.Event.{Event}
+use Rattle.text.proofs.ProgramsReading.{table-read}
 use Rattle.text.proofs.RowLaws.{firsts-length}
 use Rattle.model.specs.Audit.{row4, row4Open, row6, row7, row8, row9, replayChecks, reportChecks}
 use Rattle.model.specs.Batch.{Batch}
@@ -41,16 +42,7 @@ use Rattle.replay.specs.Judges.{batchIn, Ready, checks, Judges}
 use Rattle.replay.specs.declared.Fault.{Fault}
 use Rattle.verifier.specs.Accepts.{Accepts}
 use Rattle.verifier.specs.Faults.{badLine, contents, row2, batchOf, audited, auditedOf, auditOf}
-use Rattle.verifier.specs.Steps.{
-  refusal,
-  tableIn,
-  eventsIn,
-  linesIn,
-  TraceHeld,
-  ReportHeld,
-  auditedReport,
-  auditedTrace,
-}
+use Rattle.verifier.specs.Steps.{refusal, eventsIn, linesIn, TraceHeld, ReportHeld, auditedReport, auditedTrace}
 use Rattle.verifier.specs.declared.Audited.{Audited}
 use Rattle.verifier.proofs.Acceptance.{audit-accepts}
 use Rattle.verifier.proofs.ReportRanges.{report-in-range}
@@ -247,10 +239,6 @@ module _ (s trace report : List ℕ) (ps : Programs) (h : ProgramsIs s ps) where
       ap (λ p. auditedOf p (readTrace trace) (readReport report)) u
 
   module _ (ok : ps .ok ≡ true) where
-    table-read : readable (tableIn ps) ≡ readPrograms s
-    unfolding programsIn
-    table-read = rw ok at (h .read)
-
     module _ (r : Ruling) (e : r ≡ rulingOf (firsts (programAt (ps .table)) (min (ps .n) 16))) where
       ruled : brokenLine r ≡ row2 (tableIn ps)
       ruled =
@@ -259,7 +247,7 @@ module _ (s trace report : List ℕ) (ps : Programs) (h : ProgramsIs s ps) where
 
       whole-text : auditedOf (readable (tableIn ps)) (readTrace trace) (readReport report) ≡ auditOf s trace report
       unfolding auditOf
-      whole-text = ap (λ p. auditedOf p (readTrace trace) (readReport report)) table-read
+      whole-text = ap (λ p. auditedOf p (readTrace trace) (readReport report)) (table-read s ps h ok)
 
       pub at-2 : (line : ℕ) → r ≡ Broken line → refusal 2 line ≡ auditOf s trace report
       at-2 line d =

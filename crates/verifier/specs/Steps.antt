@@ -6,7 +6,7 @@ use mathlib.Core.Option.{none}
 use mathlib.Core.Path.{_≡_}
 use lib.Dec.{eqb, ltb}
 use lib.ListN.{length, getD}
-use Rattle.text.specs.Held.{eventAt, ofAt, entryAt, noProgram, programAt, Bounded}
+use Rattle.text.specs.Held.{eventAt, ofAt, entryAt, noProgram, Bounded, tableIn}
 use Rattle.text.specs.Report.{Report}
 use Rattle.text.specs.Rows.{firsts}
 use Rattle.text.specs.Text.{Read, count}
@@ -73,9 +73,6 @@ abbrev pub refusal : (verdict line : ℕ) → Audited
 refusal verdict line = record { verdict = verdict; line = line; requests = 0; operations = 0 }
 
 -- what stands in the arrays
-abbrev pub tableIn : Programs → List Program
-tableIn ps = firsts (programAt (ps .table)) (ps .n)
-
 abbrev pub eventsIn : List ℕ → ℕ → List Event
 eventsIn events t = firsts (eventAt events) t
 

@@ -17,11 +17,12 @@ use text::read_report;
 use text::read_trace;
 ghost use mathlib.Core.Path.{_≡_};
 ghost use mathlib.Core.Logic.{_↔_};
+ghost use Rattle.text.specs.Held.{tableIn};
 ghost use Rattle.text.specs.Report.{readReport};
 ghost use Rattle.model.specs.Checks.{verdict};
 ghost use Rattle.verifier.specs.Accepts.{Accepts};
 ghost use Rattle.verifier.specs.Faults.{audited, auditOf};
-ghost use Rattle.verifier.specs.Steps.{refusal, TraceHeld, tableIn, eventsIn, linesIn, auditedTrace, ReportHeld, auditedReport};
+ghost use Rattle.verifier.specs.Steps.{refusal, TraceHeld, eventsIn, linesIn, auditedTrace, ReportHeld, auditedReport};
 
 // A refusal, whose counts are 0.
 fn refused(verdict: u64, line: usize) -> Audited

@@ -1,6 +1,7 @@
 -- `audit_report` meets its contract.
 use mathlib.Core.Path.{_∙_}
-use Rattle.verifier.specs.Steps.{tableIn, eventsIn, linesIn}
+use Rattle.text.specs.Held.{tableIn}
+use Rattle.verifier.specs.Steps.{eventsIn, linesIn}
 use Rattle.verifier.proofs.Verdicts.{broken, kept, at-6, at-7, judged}
 use borrow.Author.Needs.{needs}
 use Rattle.verifier.proofs.audits.audit_report.Statement.{statement}

@@ -1,7 +1,8 @@
 -- `audit_trace` meets its contract.
 use mathlib.Core.Path.{_∙_}
+use Rattle.text.specs.Held.{tableIn}
 use Rattle.text.specs.Report.{readReport}
-use Rattle.verifier.specs.Steps.{tableIn, eventsIn}
+use Rattle.verifier.specs.Steps.{eventsIn}
 use Rattle.verifier.proofs.Verdicts.{broken, kept, known-in, at-4, at-4-open, at-5, past-5, report-bad, report-read, report-held}
 use borrow.Author.Needs.{needs}
 use Rattle.verifier.proofs.audits.audit_trace.Statement.{statement}
