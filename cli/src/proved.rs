@@ -1,30 +1,11 @@
 //! The proved functions, linked from the static library of crate `export`. Nothing else decides a verdict.
 
 use crate::outcome::NotRun;
-use crate::texts::{Text, Texts};
+use crate::texts::{Texts, BATCH, RUN};
 
-// A slice passes as its address and its length; crates/export/teaselshears.h says what each function promises.
-extern "C" {
-    fn teaselshears_audit_text(
-        programs: *const u8,
-        programs_length: usize,
-        trace: *const u8,
-        trace_length: usize,
-        report: *const u8,
-        report_length: usize,
-        out: *mut u8,
-        out_length: usize,
-    ) -> usize;
-
-    fn teaselshears_record_text(
-        programs: *const u8,
-        programs_length: usize,
-        schedule: *const u8,
-        schedule_length: usize,
-        out: *mut u8,
-        out_length: usize,
-    ) -> usize;
-}
+#[allow(dead_code)]
+#[path = "../../crates/export/teaselshears.rs"]
+mod teaselshears;
 
 /// More stack than the functions use, whatever limit the program was started with.
 pub const STACK: usize = 4 << 20;
@@ -49,39 +30,15 @@ impl Proved {
 
     /// What the program `audit` prints of a batch.
     pub fn audit(&mut self, texts: &Texts) -> Result<&[u8], NotRun> {
-        let [programs, trace, report] =
-            [Text::Programs, Text::Trace, Text::Report].map(|text| texts.bytes(text));
-        // SAFETY: each address comes with the length of its slice; the slices live until the call returns, and the buffer is
-        // lent to it alone.
-        let written = unsafe {
-            teaselshears_audit_text(
-                programs.as_ptr(),
-                programs.len(),
-                trace.as_ptr(),
-                trace.len(),
-                report.as_ptr(),
-                report.len(),
-                self.out.as_mut_ptr(),
-                self.out.len(),
-            )
-        };
+        let [programs, trace, report] = BATCH.map(|text| texts.bytes(text));
+        let written = teaselshears::audit_text(programs, trace, report, &mut self.out);
         self.front(written)
     }
 
     /// What the program `record` prints of a schedule.
     pub fn record(&mut self, texts: &Texts) -> Result<&[u8], NotRun> {
-        let [programs, schedule] = [Text::Programs, Text::Schedule].map(|text| texts.bytes(text));
-        // SAFETY: as above.
-        let written = unsafe {
-            teaselshears_record_text(
-                programs.as_ptr(),
-                programs.len(),
-                schedule.as_ptr(),
-                schedule.len(),
-                self.out.as_mut_ptr(),
-                self.out.len(),
-            )
-        };
+        let [programs, schedule] = RUN.map(|text| texts.bytes(text));
+        let written = teaselshears::record_text(programs, schedule, &mut self.out);
         self.front(written)
     }
 
