@@ -81,7 +81,7 @@ fn look_at_batches(work: &Work, sender: &Sender<Done>) {
             }
         }
         if group.len() == GROUP {
-            work.keep(group.drain(..).collect(), sender);
+            work.keep(std::mem::take(&mut group), sender);
         }
     }
     work.keep(group, sender);
