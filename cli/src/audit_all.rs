@@ -13,6 +13,7 @@ use crate::outcome::{print_to, say, standard_output, NotRun, Status};
 use crate::shown;
 use crate::system;
 use crate::texts;
+use crate::verdicts;
 use progress::Progress;
 use results::Results;
 use std::collections::BTreeMap;
@@ -94,7 +95,7 @@ fn jobs(word: Option<&OsStr>) -> Result<usize, NotRun> {
     let Some(word) = word else {
         return Ok(thread::available_parallelism().map_or(1, usize::from));
     };
-    let number = word.to_str().and_then(|word| word.parse().ok());
+    let number = verdicts::number(word.as_bytes()).and_then(|number| number.try_into().ok());
     number
         .filter(|number| (1..=999).contains(number))
         .ok_or_else(|| NotRun::new("--jobs takes a number from 1 to 999"))
@@ -160,27 +161,21 @@ fn print_names(findings: &Findings, options: &Options) -> Result<(), NotRun> {
 /// Says the counts, and gives the status over all batches.
 fn ended(spool: &Path, findings: &Findings) -> Result<Status, NotRun> {
     let count = |state| findings.values().filter(|f| f.state == state).count();
-    let counts = State::ALL.map(|state| (state, count(state)));
-    let said = counts
-        .iter()
-        .filter(|(state, n)| *state != State::Waiting || *n > 0);
-    let said: Vec<String> = said
-        .map(|(state, n)| format!("{n} {}", state.word()))
-        .collect();
-    say(&format!(
-        "of {} in the spool: {}",
-        findings.len(),
-        said.join(", ")
-    ));
-    if count(State::Waiting) > 0 {
-        return Err(NotRun::new(
-            "it was stopped before all batches were audited; run it again to go on",
-        ));
+    let mut counts: Vec<String> = Vec::new();
+    for state in State::ALL {
+        // Only a run that was stopped leaves batches waiting.
+        if state != State::Waiting || count(state) > 0 {
+            counts.push(format!("{} {}", count(state), state.word()));
+        }
     }
-    let status = findings
-        .values()
-        .map(|finding| finding.state.status())
-        .max();
+    if count(State::Waiting) > 0 {
+        say("stopped before all batches were audited; run it again to go on");
+    }
+    let (all, counts) = (findings.len(), counts.join(", "));
+    say(&format!("of {all} in the spool: {counts}"));
+    let statuses = findings.values().map(|finding| finding.state.status());
     let spool = shown::name(spool.as_os_str());
-    status.ok_or_else(|| NotRun(format!("there is no batch in {spool}")))
+    statuses
+        .max()
+        .ok_or_else(|| NotRun(format!("there is no batch in {spool}")))
 }

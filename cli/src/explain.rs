@@ -6,6 +6,7 @@ use crate::outcome::{NotRun, Status};
 use crate::shown;
 use crate::verdicts::{self, Verdict};
 use std::ffi::OsString;
+use std::os::unix::ffi::OsStrExt;
 
 /// How wide a line of the explanation is.
 const WIDTH: usize = 78;
@@ -16,7 +17,7 @@ pub fn run(words: impl Iterator<Item = OsString>) -> Result<Status, NotRun> {
         return help::print(help::EXPLAIN);
     }
     let [word] = given.exactly("one verdict is")?;
-    let number = word.to_str().and_then(|word| word.parse().ok());
+    let number = verdicts::number(word.as_bytes());
     let found = number.and_then(|number| Some((number, verdicts::verdict(number)?)));
     let Some((number, verdict)) = found else {
         let word = shown::name(word);

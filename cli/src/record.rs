@@ -7,6 +7,7 @@ use crate::help;
 use crate::outcome::{count, print, say, NotRun, Status};
 use crate::proved::Proved;
 use crate::shown;
+use crate::system;
 use crate::texts::{Missing, Text, Texts, BATCH, RUN};
 use crate::verdicts;
 use std::ffi::OsString;
@@ -92,7 +93,7 @@ fn lines_of(text: &[u8], word: &[u8]) -> u64 {
 /// this batch.
 fn publish(out: &Path, batch: &Texts) -> Result<(), NotRun> {
     let shown = shown::name(out.as_os_str());
-    let cannot = |why: io::Error| NotRun(format!("{shown} cannot be written: {why}"));
+    let cannot = |why: io::Error| NotRun(format!("'{shown}' cannot be written: {why}"));
     let parent =
         parent_of(out).ok_or_else(|| NotRun(format!("'{shown}' is no name of a new folder")))?;
     match fs::symlink_metadata(out) {
@@ -102,7 +103,7 @@ fn publish(out: &Path, batch: &Texts) -> Result<(), NotRun> {
     }
     fs::create_dir_all(&parent).map_err(cannot)?;
     let new = new_folder(&parent).map_err(cannot)?;
-    let moved = write_batch(&new, batch).and_then(|()| fs::rename(&new, out));
+    let moved = write_batch(&new, batch).and_then(|()| system::rename_new(&new, out));
     if let Err(why) = moved {
         let _ = fs::remove_dir_all(&new);
         return match fs::symlink_metadata(out) {

@@ -1,16 +1,24 @@
 //! Calls of the C library that the standard library does not offer, each behind a safe function. The numbers are those of
 //! Linux on x86-64, for which the proved library is built.
 
-use std::ffi::{c_char, c_int, CStr};
-use std::fs::{File, OpenOptions};
+use std::ffi::{c_char, c_int, c_uint, CStr, CString};
+use std::fs::{self, File, OpenOptions};
 use std::io;
 use std::os::fd::{AsRawFd, FromRawFd};
+use std::os::unix::ffi::OsStrExt;
 use std::os::unix::fs::OpenOptionsExt;
 use std::path::Path;
 use std::sync::atomic::{AtomicBool, Ordering};
 
 extern "C" {
     fn openat(folder: c_int, name: *const c_char, flags: c_int, ...) -> c_int;
+    fn renameat2(
+        from_folder: c_int,
+        from: *const c_char,
+        to_folder: c_int,
+        to: *const c_char,
+        flags: c_uint,
+    ) -> c_int;
     fn flock(file: c_int, operation: c_int) -> c_int;
     fn syncfs(file: c_int) -> c_int;
     fn fcntl(file: c_int, command: c_int, ...) -> c_int;
@@ -23,6 +31,8 @@ const O_DIRECTORY: c_int = 0o200000;
 const O_NOFOLLOW: c_int = 0o400000;
 const O_CLOEXEC: c_int = 0o2000000;
 const O_PATH: c_int = 0o10000000;
+const AT_FDCWD: c_int = -100;
+const RENAME_NOREPLACE: c_uint = 1;
 const LOCK_EX: c_int = 2;
 const LOCK_NB: c_int = 4;
 const F_GETFD: c_int = 1;
@@ -58,6 +68,22 @@ fn open_with(folder: &File, name: &CStr, flags: c_int) -> io::Result<File> {
     }
     // SAFETY: the call has just opened it, and nobody else has it.
     Ok(unsafe { File::from_raw_fd(file) })
+}
+
+/// Renames a folder to a name that nothing has. Where the file system cannot see to that in one step, an empty folder of the
+/// name may be replaced, and nothing else.
+pub fn rename_new(from: &Path, to: &Path) -> io::Result<()> {
+    let [from_name, to_name] = [from, to].map(|path| CString::new(path.as_os_str().as_bytes()));
+    let (from_name, to_name) = (from_name?, to_name?);
+    let (from_name, to_name) = (from_name.as_ptr(), to_name.as_ptr());
+    // SAFETY: both names end in a zero byte, and live until the call returns.
+    if unsafe { renameat2(AT_FDCWD, from_name, AT_FDCWD, to_name, RENAME_NOREPLACE) } == 0 {
+        return Ok(());
+    }
+    match io::Error::last_os_error() {
+        why if why.kind() == io::ErrorKind::InvalidInput => fs::rename(from, to),
+        why => Err(why),
+    }
 }
 
 /// Takes the lock of a file for as long as it is open; false where another process has it.

@@ -59,17 +59,16 @@ pub fn numbers<'a, const N: usize>(
 ) -> Option<([u64; N], &'a [u8])> {
     let mut found = [0; N];
     let mut rest = printed;
-    for (number, word) in found.iter_mut().zip(words) {
+    for (place, word) in found.iter_mut().zip(words) {
         let end = rest.iter().position(|byte| *byte == b'\n')?;
-        let digits = rest[..end].strip_prefix(word.as_bytes())?;
-        *number = number_of(digits)?;
+        *place = number(rest[..end].strip_prefix(word.as_bytes())?)?;
         rest = &rest[end + 1..];
     }
     Some((found, rest))
 }
 
 /// A number in its one spelling.
-fn number_of(digits: &[u8]) -> Option<u64> {
+pub fn number(digits: &[u8]) -> Option<u64> {
     let number: u64 = std::str::from_utf8(digits).ok()?.parse().ok()?;
     (number.to_string().as_bytes() == digits).then_some(number)
 }

@@ -46,18 +46,15 @@ impl Results {
     /// Opens the folder, which is made where it is not there, and takes its lock.
     pub fn open(folder: &Path, spool: &Path) -> Result<Results, NotRun> {
         let name = shown::name(folder.as_os_str());
-        let cannot = |why: io::Error| NotRun(format!("{name} cannot be written: {why}"));
+        let cannot = |why: io::Error| NotRun(format!("'{name}' cannot be written: {why}"));
         texts::open_folder(spool)?;
-        if folder.as_os_str().is_empty() {
-            return Err(NotRun::new("the name of the folder is empty"));
-        }
+        let folder = &real_path(folder).map_err(cannot)?;
         apart(folder, spool).map_err(cannot)?;
         fs::create_dir_all(folder).map_err(cannot)?;
-        apart(folder, spool).map_err(cannot)?;
         may_be_ours(folder).map_err(cannot)?;
         let lock = locked(folder).map_err(cannot)?;
         let results = Results {
-            folder: folder.to_owned(),
+            folder: folder.clone(),
             lock,
             prepared: AtomicUsize::new(0),
         };
@@ -172,37 +169,38 @@ fn damaged(why: &dyn std::fmt::Display) -> NotRun {
     NotRun(format!("its kept result is damaged: {why}"))
 }
 
+/// The real path of a folder whose last parts may not be there yet.
+fn real_path(path: &Path) -> io::Result<PathBuf> {
+    let why = match fs::canonicalize(path) {
+        Err(why) if why.kind() == io::ErrorKind::NotFound => why,
+        real => return real,
+    };
+    // What is not there can be made, but not be left again by `..`, which has no name.
+    let name = path.file_name().ok_or(why)?;
+    let parent = path
+        .parent()
+        .filter(|parent| !parent.as_os_str().is_empty());
+    Ok(real_path(parent.unwrap_or(Path::new(".")))?.join(name))
+}
+
 /// Refuses a folder of results that is the spool, lies in it, or holds it.
 fn apart(folder: &Path, spool: &Path) -> io::Result<()> {
-    if lies_in(folder, spool)? {
+    let spool = fs::canonicalize(spool)?;
+    if lies_in(folder, &spool)? {
         return Err(io::Error::other("it is not to lie in the spool"));
     }
-    if folder.exists() && lies_in(spool, folder)? {
+    if folder.exists() && lies_in(&spool, folder)? {
         return Err(io::Error::other("the spool is not to lie in it"));
     }
     Ok(())
 }
 
-/// Whether a path, as far as it is there, is a folder or lies in it, by whatever names.
+/// Whether a real path is a folder or lies in it, be it mounted under two names.
 fn lies_in(path: &Path, folder: &Path) -> io::Result<bool> {
     let identity = |path: &Path| fs::metadata(path).map(|about| (about.dev(), about.ino()));
     let folder = identity(folder)?;
-    let here = Path::new(".");
-    let parts = path.ancestors().map(|part| {
-        if part.as_os_str().is_empty() {
-            here
-        } else {
-            part
-        }
-    });
-    let there = parts
-        .chain([here])
-        .find_map(|part| fs::canonicalize(part).ok());
-    let there = there.ok_or(io::ErrorKind::NotFound)?;
-    let found = there
-        .ancestors()
-        .any(|part| identity(part).is_ok_and(|it| it == folder));
-    Ok(found)
+    let above = |part: &Path| identity(part).is_ok_and(|found| found == folder);
+    Ok(path.ancestors().any(above))
 }
 
 /// Refuses a folder that holds something and is not marked.
