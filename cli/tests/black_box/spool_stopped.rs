@@ -30,12 +30,17 @@ fn begin(spool: &Path, results: &Path, jobs: &str) -> Child {
     heeds_interrupts(&mut program).spawn().unwrap()
 }
 
+/// Waits until a run has kept so many results, or has ended.
+fn until_kept(child: &mut Child, results: &Path, number: usize) {
+    while names_in(&results.join("batches")).len() < number && child.try_wait().unwrap().is_none() {
+        thread::sleep(Duration::from_micros(500));
+    }
+}
+
 /// Begins a run, sends it a signal once some results are kept, and waits for it.
 fn stopped(spool: &Path, results: &Path, signal: i32) -> Ended {
     let mut child = begin(spool, results, "1");
-    while names_in(&results.join("batches")).len() < 5 && child.try_wait().unwrap().is_none() {
-        thread::sleep(Duration::from_micros(500));
-    }
+    until_kept(&mut child, results, 5);
     kill(child.id(), signal);
     collect(child, Duration::from_secs(30))
 }
@@ -129,10 +134,8 @@ fn both_end(spool: &Path, results: &Path, children: [Child; 2]) {
 
 fn two_runs_at_once(room: &Room) -> Done {
     let (spool, results) = (room.spool("spool", "case-c", 300), room.path("results"));
-    let first = begin(&spool, &results, "2");
-    while names_in(&results.join("batches")).is_empty() {
-        thread::sleep(Duration::from_micros(500));
-    }
+    let mut first = begin(&spool, &results, "2");
+    until_kept(&mut first, &results, 1);
     let second = begin(&spool, &results, "2");
     both_end(&spool, &results, [first, second]);
     Ok(())
