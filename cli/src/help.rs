@@ -1,5 +1,8 @@
 //! What `--help` prints, for the program and for each of its commands.
 
+use crate::outcome::{self, NotRun, Status};
+use crate::proved;
+
 pub const PROGRAM: &str = "\
 usage: teaselshears COMMAND [OPTION]... ARGUMENT...
 
@@ -34,7 +37,7 @@ not printable as \\ and three octal digits).
 
       --json              one JSON object in place of both: batch, state, verdict, line, text, bytes, requests,
                           operations, sentence, version, library, kit; null where there is none. A byte of 'bytes'
-                          is the character of its number
+                          is the character of its number; a name that is not UTF-8 is a list of its bytes
       --missing-as-empty  a missing file is an empty text; without it such a batch is not run. A folder with none
                           of the three files is never run
   -                       in place of DIR: takes folder names from standard input, one a line, and prints an object
@@ -114,3 +117,16 @@ Says what verdict N (0 to 16) means: its rule, a small example, and what to do n
 
   -h, --help       this text
 ";
+
+/// Prints a text that was asked for.
+pub fn print(text: &str) -> Result<Status, NotRun> {
+    outcome::print(text.as_bytes())?;
+    Ok(Status::Accepted)
+}
+
+pub fn print_version() -> Result<Status, NotRun> {
+    let (version, library, kit) = (proved::VERSION, proved::LIBRARY, proved::KIT);
+    print(&format!(
+        "teaselshears {version}\nlibrary {library}\nkit {kit}\n"
+    ))
+}
