@@ -1,4 +1,4 @@
-//! A reader for the JSON objects that the program prints: flat ones, of strings, whole numbers and null.
+//! A reader for the JSON objects that the program prints: flat ones, of strings, whole numbers, lists of bytes and null.
 
 use std::collections::BTreeMap;
 use std::iter::Peekable;
@@ -9,6 +9,8 @@ pub enum Value {
     Null,
     Number(u64),
     Text(String),
+    /// A name that is not UTF-8.
+    Bytes(Vec<u8>),
 }
 
 pub type Object = BTreeMap<String, Value>;
@@ -95,6 +97,9 @@ fn value(rest: &mut Peekable<Chars>) -> Option<Value> {
     if rest.peek() == Some(&'"') {
         return string(rest).map(Value::Text);
     }
+    if rest.next_if_eq(&'[').is_some() {
+        return list(rest).map(Value::Bytes);
+    }
     let mut word = String::new();
     while let Some(c) = rest.next_if(char::is_ascii_alphanumeric) {
         word.push(c);
@@ -104,6 +109,23 @@ fn value(rest: &mut Peekable<Chars>) -> Option<Value> {
     }
     let plain = word == "0" || !word.starts_with('0');
     word.parse().ok().filter(|_| plain).map(Value::Number)
+}
+
+/// The bytes of a list that has at least one.
+fn list(rest: &mut Peekable<Chars>) -> Option<Vec<u8>> {
+    let mut bytes = Vec::new();
+    loop {
+        let Value::Number(byte) = value(rest)? else {
+            return None;
+        };
+        bytes.push(u8::try_from(byte).ok()?);
+        blanks(rest);
+        match rest.next()? {
+            ',' => {}
+            ']' => return Some(bytes),
+            _ => return None,
+        }
+    }
 }
 
 fn string(rest: &mut Peekable<Chars>) -> Option<String> {

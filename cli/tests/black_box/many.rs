@@ -221,7 +221,9 @@ fn names_that_are_not_utf8(room: &Room) -> Done {
         &room.path("").join(OsStr::from_bytes(name)),
     );
     let ended = several(room, &[], b"\xff\xfe\n");
-    assert_eq!(objects(&ended.is(0).stdout)[0]["verdict"], Value::Number(0));
+    let object = objects(&ended.is(0).stdout).remove(0);
+    assert_eq!(object["verdict"], Value::Number(0));
+    assert_eq!(object["batch"], Value::Bytes(name.to_vec()));
     Ok(())
 }
 

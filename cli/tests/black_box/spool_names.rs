@@ -1,7 +1,7 @@
 //! Names of every sort in a spool: each batch is kept under its own, and table, list and JSON say which it is.
 
 use crate::harness::{tests, Done};
-use crate::json::{objects, Object, Value};
+use crate::json::{objects, text, Value};
 use crate::results::{batches, check_all_kept, rows, shown};
 use crate::room::{copy_folder, example, names_in, Room};
 use crate::run::{audit_all, needs, program, Run};
@@ -159,6 +159,12 @@ fn names_in_lists(room: &Room) -> Done {
     Ok(())
 }
 
+/// A name in JSON: as it is, or a list of its bytes where it is not UTF-8.
+fn in_json(name: &OsStr) -> Value {
+    let bytes = Value::Bytes(name.as_bytes().to_vec());
+    name.to_str().map_or(bytes, text)
+}
+
 fn names_in_json(room: &Room) -> Done {
     let (spool, results) = (spool_of_names(room), room.path("results"));
     let ended = program("audit-all")
@@ -168,16 +174,10 @@ fn names_in_json(room: &Room) -> Done {
         .end();
     let objects = objects(&ended.is(1).stdout);
     assert_eq!(objects.len(), 31);
-    let named = |object: &Object, name: &str| match &object["batch"] {
-        Value::Text(text) => text.eq_ignore_ascii_case(name),
-        _ => false,
-    };
     for name in batches(&spool) {
-        // As it is, or as the table shows it; the promise leaves that open.
-        let plain = name.to_str().unwrap_or("\0");
         let mut found = objects
             .iter()
-            .filter(|o| named(o, plain) || named(o, &shown(&name)));
+            .filter(|object| object["batch"] == in_json(&name));
         let object = found
             .next()
             .unwrap_or_else(|| panic!("no object for {name:?}; {ended}"));
@@ -230,14 +230,12 @@ fn json_as_python_reads_it(room: &Room) -> Done {
     let file = room.file("objects", &ended.is(1).stdout);
     let script = "import json, sys\n\
         for line in open(sys.argv[1], encoding='utf-8', newline='\\n'):\n\
-        \x20   one = json.loads(line)\n\
-        \x20   print(one['batch'], one['verdict'], end='\\0')";
+        \x20   name = json.loads(line)['batch']\n\
+        \x20   print(bytes(name if type(name) is list else name.encode()).hex())";
     let read = python(script, &file)?;
-    let own = objects(&ended.stdout);
-    let wanted = own.iter().map(|object| match &object["batch"] {
-        Value::Text(name) => format!("{name} 9"),
-        other => format!("{other:?}"),
-    });
-    assert!(read.split_terminator('\0').eq(wanted), "{read}");
+    let hex = |name: OsString| name.as_bytes().iter().map(|b| format!("{b:02x}")).collect();
+    let wanted: BTreeSet<String> = batches(&spool).into_iter().map(hex).collect();
+    let found: BTreeSet<String> = read.lines().map(String::from).collect();
+    assert_eq!(found, wanted);
     Ok(())
 }
