@@ -62,6 +62,9 @@ impl Options {
         if given.has(&JSON) && given.has(&LIST) {
             return Err(NotRun::new("--json and --list are not given together"));
         }
+        if given.has(&NULL) && !given.has(&LIST) {
+            return Err(NotRun::new("--null is for the names of --list"));
+        }
         Ok(Options {
             jobs: jobs(given.value(&JOBS))?,
             prints,

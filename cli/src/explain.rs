@@ -21,7 +21,8 @@ pub fn run(words: impl Iterator<Item = OsString>) -> Result<Status, NotRun> {
     let Some((number, verdict)) = found else {
         let word = shown::name(word);
         return Err(NotRun(format!(
-            "there is no verdict '{word}': they are 0 to 16"
+            "there is no verdict '{word}': they are 0 to {}",
+            verdicts::LAST
         )));
     };
     help::print(&explained(number, verdict))

@@ -47,7 +47,7 @@ impl State {
 
     pub fn status(self) -> Status {
         match self {
-            State::Accepted => Status::Accepted,
+            State::Accepted => Status::Success,
             State::Refused => Status::Refused,
             State::Changed | State::Failed | State::Waiting => Status::NotRun,
         }
@@ -77,8 +77,9 @@ pub struct Finding {
     pub batch: OsString,
     pub state: State,
     pub audited: Option<Audited>,
-    /// The line that a refusal names.
-    pub fault: Option<(Text, Vec<u8>)>,
+    /// The text that a refusal is about, and the line that it names, where there is such a line.
+    pub text: Option<Text>,
+    pub bytes: Option<Vec<u8>>,
     pub sentence: String,
     pub program: Program,
     /// When it was found, where that is kept.
@@ -104,12 +105,14 @@ impl Finding {
 
     /// A verdict that was found of these texts, without its sentence.
     pub fn read(batch: OsString, audited: Audited, texts: &Texts) -> Finding {
-        let line = fault_line(&audited, texts);
+        let text = verdicts::text(audited.verdict);
+        let bytes = text.and_then(|text| line_of(texts.bytes(text), audited.line));
         Finding {
             batch,
             state: State::of(&audited),
             audited: Some(audited),
-            fault: line.map(|(text, bytes)| (text, bytes.to_vec())),
+            text,
+            bytes: bytes.map(<[u8]>::to_vec),
             sentence: String::new(),
             program: Program::this(),
             time: String::new(),
@@ -122,7 +125,8 @@ impl Finding {
             batch,
             state,
             audited: None,
-            fault: None,
+            text: None,
+            bytes: None,
             sentence,
             program: Program::this(),
             time: String::new(),
@@ -133,16 +137,16 @@ impl Finding {
     pub fn json(&self) -> String {
         let mut object = Object::new();
         let audited = self.audited.as_ref();
-        let fault = self.fault.as_ref();
+        let bytes = self.bytes.as_deref();
         object.add("batch", json::name(&self.batch));
         object.add("state", json::string(self.state.word()));
         object.add("verdict", json::number(audited.map(|a| a.verdict)));
         object.add("line", json::number(audited.map(|a| a.line)));
         object.add(
             "text",
-            json::optional(fault.map(|(t, _)| json::string(t.file()))),
+            json::optional(self.text.map(|text| json::string(text.file()))),
         );
-        object.add("bytes", json::optional(fault.map(|(_, b)| json::bytes(b))));
+        object.add("bytes", json::optional(bytes.map(json::bytes)));
         object.add("requests", json::number(audited.map(|a| a.requests)));
         object.add("operations", json::number(audited.map(|a| a.operations)));
         object.add("sentence", json::string(&self.sentence));
@@ -193,12 +197,6 @@ pub fn missing(texts: &Texts) -> String {
         true => String::new(),
         false => format!("; missing, and read as empty: {}", files.join(", ")),
     }
-}
-
-/// The line that a verdict names, where there is one.
-fn fault_line<'a>(audited: &Audited, texts: &'a Texts) -> Option<(Text, &'a [u8])> {
-    let text = verdicts::text(audited.verdict)?;
-    Some((text, line_of(texts.bytes(text), audited.line)?))
 }
 
 /// A line by its number from 1, with its line feed where it has one.

@@ -121,7 +121,7 @@ Says what verdict N (0 to 16) means: its rule, a small example, and what to do n
 /// Prints a text that was asked for.
 pub fn print(text: &str) -> Result<Status, NotRun> {
     outcome::print(text.as_bytes())?;
-    Ok(Status::Accepted)
+    Ok(Status::Success)
 }
 
 pub fn print_version() -> Result<Status, NotRun> {

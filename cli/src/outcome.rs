@@ -9,7 +9,7 @@ use std::process::ExitCode;
 /// The exit status; of several batches the last in this order counts.
 #[derive(Clone, Copy, Debug, PartialEq, Eq, PartialOrd, Ord)]
 pub enum Status {
-    Accepted,
+    Success,
     Refused,
     NotRun,
 }
@@ -17,7 +17,7 @@ pub enum Status {
 impl From<Status> for ExitCode {
     fn from(status: Status) -> ExitCode {
         ExitCode::from(match status {
-            Status::Accepted => 0,
+            Status::Success => 0,
             Status::Refused => 1,
             Status::NotRun => 2,
         })

@@ -45,7 +45,7 @@ pub fn run(words: impl Iterator<Item = OsString>) -> Result<Status, NotRun> {
     say(&format!(
         "recorded to {name}: {requests}, {operations}{missing}"
     ));
-    Ok(Status::Accepted)
+    Ok(Status::Success)
 }
 
 /// What the host printed, in its parts.
@@ -93,30 +93,25 @@ fn lines_of(text: &[u8], word: &[u8]) -> u64 {
 fn publish(out: &Path, batch: &Texts) -> Result<(), NotRun> {
     let shown = shown::name(out.as_os_str());
     let cannot = |why: io::Error| NotRun(format!("{shown} cannot be written: {why}"));
-    if is_there(out).map_err(cannot)? {
-        return if_same(out, batch);
-    }
     let parent =
-        parent_of(out).ok_or_else(|| NotRun(format!("{shown} is no name of a new folder")))?;
+        parent_of(out).ok_or_else(|| NotRun(format!("'{shown}' is no name of a new folder")))?;
+    match fs::symlink_metadata(out) {
+        Ok(_) => return is_batch(out, batch),
+        Err(why) if why.kind() == io::ErrorKind::NotFound => {}
+        Err(why) => return Err(cannot(why)),
+    }
     fs::create_dir_all(&parent).map_err(cannot)?;
     let new = new_folder(&parent).map_err(cannot)?;
     let moved = write_batch(&new, batch).and_then(|()| fs::rename(&new, out));
     if let Err(why) = moved {
         let _ = fs::remove_dir_all(&new);
-        // Another run may have been first.
-        return if_same(out, batch).map_err(|_| cannot(why));
+        return match fs::symlink_metadata(out) {
+            // Another run was first.
+            Ok(_) => is_batch(out, batch),
+            Err(_) => Err(cannot(why)),
+        };
     }
     sync(&parent).map_err(cannot)
-}
-
-fn is_there(path: &Path) -> io::Result<bool> {
-    match fs::symlink_metadata(path) {
-        Ok(_) => Ok(true),
-        Err(why) if why.kind() == io::ErrorKind::NotFound && !path.as_os_str().is_empty() => {
-            Ok(false)
-        }
-        Err(why) => Err(why),
-    }
 }
 
 /// The folder that a new folder of this name lies in.
@@ -129,8 +124,8 @@ fn parent_of(out: &Path) -> Option<PathBuf> {
     }
 }
 
-/// Whether a folder holds these three texts and nothing else.
-fn if_same(out: &Path, batch: &Texts) -> Result<(), NotRun> {
+/// Sees that a folder holds these three texts and nothing else.
+fn is_batch(out: &Path, batch: &Texts) -> Result<(), NotRun> {
     let entries = fs::read_dir(out).map_or(0, Iterator::count);
     let same = Texts::read(out, &BATCH, Missing::NotRun)
         .is_ok_and(|there| there.first_difference(batch).is_none());

@@ -17,12 +17,17 @@ pub fn verdict(number: u64) -> Option<&'static Verdict> {
 }
 
 pub fn rule(number: u64) -> &'static str {
-    verdict(number).map_or("a verdict that this program does not know", |v| v.rule)
+    verdict(number).map_or("a verdict that this program does not know", |verdict| {
+        verdict.rule
+    })
 }
 
 pub fn text(number: u64) -> Option<Text> {
     verdict(number).and_then(|verdict| verdict.text)
 }
+
+/// The largest number.
+pub const LAST: usize = VERDICTS.len() - 1;
 
 /// What an audit found, as its verdict lines say it.
 #[derive(Clone, Copy, Debug, PartialEq, Eq)]
@@ -135,7 +140,7 @@ before its first request and ended after its last response.",
     Verdict {
         rule: "the order returns to itself",
         text: None,
-        example: "case B (examples/case-b): each request read 0 where the other had written before it, by the logs' order; line 0",
+        example: "case B (examples/case-b): each request writes, then reads, and by the logs each read before the other wrote",
         next: HOST_AT_FAULT,
     },
     Verdict {
