@@ -134,17 +134,6 @@ fn record_prints_what_the_proved_program_prints(room: &Room) -> Done {
     Ok(())
 }
 
-/// A number of an object, where 0 may be said by null: there is no such line, or no count.
-#[track_caller]
-fn check_number(object: &Object, key: &str, number: u64) {
-    let value = &object[key];
-    let none = number == 0 && key != "verdict" && *value == Value::Null;
-    assert!(
-        none || *value == Value::Number(number),
-        "{key} is {number}: {object:?}"
-    );
-}
-
 fn audit_in_json_of_every_example(_: &Room) -> Done {
     for name in audited_examples() {
         let folder = example(&name);
@@ -162,7 +151,8 @@ fn audit_in_json_of_every_example(_: &Room) -> Done {
         assert_eq!(object["state"], text(state));
         assert_eq!(object["sentence"], text(&plain.sentence()));
         for key in ["verdict", "line", "requests", "operations"] {
-            check_number(&object, key, number(&expected(&name), key).unwrap());
+            let number = number(&expected(&name), key).unwrap();
+            assert_eq!(object[key], Value::Number(number), "{key} of {name}");
         }
         check_place(&name, &object);
     }

@@ -155,15 +155,13 @@ fn a_report_that_is_moved_away_and_back_and_may_be_missing(room: &Room) -> Done 
     while_moved(room, &batch, || {
         for _ in 0..200 {
             let ended = program("audit").arg("--missing-as-empty").arg(&batch).end();
-            let missing = ended
-                .sentence()
-                .contains("missing, and read as empty: report.txt");
-            // What is accepted is the empty text, and it says so.
-            match missing {
-                true => ended.is(0).printed(expected("empty")),
-                false => ended
-                    .is(1)
-                    .printed(expected("refused-05-report-unreadable")),
+            match ended.status.code() {
+                // What is accepted is the empty text, and it says so.
+                Some(0) => ended
+                    .printed(expected("empty"))
+                    .said_part("missing, and read as empty: report.txt"),
+                Some(1) => ended.printed(expected("refused-05-report-unreadable")),
+                _ => ended.could_not("report.txt"),
             };
         }
     });

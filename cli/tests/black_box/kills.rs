@@ -2,7 +2,7 @@
 
 use crate::examples::check_recorded;
 use crate::harness::{skip, tests, Done};
-use crate::results::{check_all_kept, check_kept_whole, kept};
+use crate::results::check_goes_on;
 use crate::room::{example, names_in, Room};
 use crate::run::{audit_all, program, record};
 use crate::traced::{killed_at, Traced};
@@ -112,20 +112,6 @@ fn auditing(spool: &Path, results: &Path) -> Command {
     program
 }
 
-/// No half result is there; the next run keeps those that are, and completes the rest.
-#[track_caller]
-fn audit_all_goes_on(spool: &Path, results: &Path) {
-    check_kept_whole(spool, results);
-    let before = kept(results);
-    audit_all(spool, results).is(0);
-    check_all_kept(spool, results);
-    let (after, folder) = (kept(results), results.join("batches"));
-    let same = before
-        .iter()
-        .all(|(path, held)| *path == folder || after.get(path) == Some(held));
-    assert!(same, "none is audited twice");
-}
-
 fn audit_all_killed_at_spread_moments(room: &Room) -> Done {
     let spool = room.spool("spool", "case-c", 300);
     let begun = Instant::now();
@@ -140,7 +126,7 @@ fn audit_all_killed_at_spread_moments(room: &Room) -> Done {
         ));
         let found = names_in(&results.join("batches")).len();
         partial += usize::from((1..300).contains(&found));
-        audit_all_goes_on(&spool, &results);
+        check_goes_on(&spool, &results);
         fs::remove_dir_all(results).unwrap();
         if killed >= 20 && partial >= 5 {
             return Ok(());
@@ -160,7 +146,7 @@ fn audit_all_killed_at_system_calls(room: &Room) -> Done {
     for stops in (0..all).step_by(1 + all / 100) {
         let traced = killed_at(&mut auditing(&spool, &results), stops);
         kills += usize::from(traced == Traced::Killed);
-        audit_all_goes_on(&spool, &results);
+        check_goes_on(&spool, &results);
         fs::remove_dir_all(&results).unwrap();
     }
     assert!(kills >= 20, "{kills} kills");

@@ -2,7 +2,7 @@
 //! place.
 
 use crate::harness::{skip, tests, Done, Skipped};
-use crate::room::{example, expected, root, Room};
+use crate::room::{copy_folder, example, expected, names_in, root, Room};
 use crate::run::{is_there, Run};
 use std::fs::{self, Permissions};
 use std::os::unix::fs::{symlink, PermissionsExt};
@@ -10,7 +10,10 @@ use std::path::{Path, PathBuf};
 use std::process::Command;
 use std::time::Duration;
 
-tests![the_launcher_whatever_the_environment];
+tests![
+    the_launcher_whatever_the_environment,
+    a_launcher_that_cannot_build,
+];
 
 /// The first call may prove and build.
 const LIMIT: Duration = Duration::from_secs(300);
@@ -114,5 +117,28 @@ fn the_launcher_whatever_the_environment(room: &Room) -> Done {
     check_same("two symbolic links", Path::new("./second"), |command| {
         command.current_dir(room.path(""));
     });
+    Ok(())
+}
+
+/// Where the sources cannot be proved, a program that lies there from before is not run.
+fn a_launcher_that_cannot_build(room: &Room) -> Done {
+    launcher()?;
+    copy_folder(&root().join("tools"), &room.folder("copy/tools"));
+    for name in names_in(&room.path("copy/tools")) {
+        let path = room.path("copy/tools").join(name);
+        fs::set_permissions(path, Permissions::from_mode(0o755)).unwrap();
+    }
+    let older = false_commands(room).join("teaselshears");
+    room.folder("copy/target/cli/release");
+    fs::copy(older, room.path("copy/target/cli/release/teaselshears")).unwrap();
+    let mut command = Command::new("bash");
+    command.arg("-p").arg(room.path("copy/tools/teaselshears"));
+    let ended = command
+        .arg("audit")
+        .arg(example("case-c"))
+        .end_within(LIMIT);
+    ended.is(2).printed("");
+    let said = String::from_utf8_lossy(&ended.stderr);
+    assert!(said.contains("teaselshears: could not be run: "), "{ended}");
     Ok(())
 }

@@ -3,6 +3,7 @@
 use crate::csv;
 use crate::identity::about;
 use crate::room::{names, names_in, read, tree, TEXTS};
+use crate::run::audit_all;
 use std::collections::BTreeMap;
 use std::ffi::{OsStr, OsString};
 use std::os::unix::ffi::OsStrExt;
@@ -214,4 +215,24 @@ fn check_row_of(results: &Path, name: &OsStr, rows: &[Row]) {
 /// The kept results with their inodes and times, by which one that was made again is seen.
 pub fn kept(results: &Path) -> BTreeMap<PathBuf, String> {
     tree(&results.join("batches"))
+}
+
+/// What was kept before is there as it was: nothing was audited again.
+#[track_caller]
+pub fn check_stays(before: &BTreeMap<PathBuf, String>, results: &Path) {
+    let after = kept(results);
+    let lost = before
+        .iter()
+        .find(|(path, held)| after.get(*path) != Some(*held));
+    assert!(lost.is_none(), "{lost:?} does not stay");
+}
+
+/// No half result is there; the next run keeps those that are, and completes the rest.
+#[track_caller]
+pub fn check_goes_on(spool: &Path, results: &Path) {
+    check_kept_whole(spool, results);
+    let before = kept(results);
+    audit_all(spool, results).is(0);
+    check_all_kept(spool, results);
+    check_stays(&before, results);
 }

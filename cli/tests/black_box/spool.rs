@@ -2,12 +2,13 @@
 
 use crate::harness::{tests, Done};
 use crate::json::{objects, text, Object, Value};
-use crate::results::{check_all_kept, kept, row, states};
+use crate::results::{check_all_kept, check_stays, kept, row, states};
 use crate::room::{audited_examples, copy_folder, example, expected, names_in, read, Room};
-use crate::run::{audit, audit_all, program, Run};
+use crate::run::{audit, audit_all, needs, program, Run, PROGRAM};
 use std::collections::BTreeMap;
 use std::fs;
 use std::path::{Path, PathBuf};
+use std::process::Command;
 
 tests![
     a_thousand_batches,
@@ -21,6 +22,7 @@ tests![
     names_that_begin_with_a_dot,
     no_batch,
     all_accepted_and_all_refused,
+    progress_on_a_terminal,
 ];
 
 /// A spool of every example that can be audited.
@@ -220,12 +222,7 @@ fn batches_that_come_later(room: &Room) -> Done {
         .is(1)
         .said_part("of 4 in the spool: 3 accepted, 1 refused, 0 changed, 0 failed");
     assert_eq!(ended.said().len(), 2, "the new one and the counts");
-    let after = kept(&results);
-    let folder = results.join("batches");
-    let same = before
-        .iter()
-        .all(|(path, held)| *path == folder || after.get(path) == Some(held));
-    assert!(same, "what was kept stays");
+    check_stays(&before, &results);
     check_all_kept(&spool, &results);
     Ok(())
 }
@@ -284,5 +281,34 @@ fn all_accepted_and_all_refused(room: &Room) -> Done {
     ended
         .is(1)
         .said_part("of 3 in the spool: 0 accepted, 3 refused, 0 changed, 0 failed");
+    Ok(())
+}
+
+/// On a terminal is a line of progress in place of a line for each batch; `script` of util-linux makes one.
+fn progress_on_a_terminal(room: &Room) -> Done {
+    needs("script")?;
+    let (spool, results) = (room.spool("spool", "case-c", 50), room.path("results"));
+    room.batch("spool/bad", "case-b");
+    let words = [
+        PROGRAM,
+        "audit-all",
+        spool.to_str().unwrap(),
+        results.to_str().unwrap(),
+    ];
+    let mut script = Command::new("script");
+    script.args(["-q", "-e", "-c", &words.join(" "), "/dev/null"]);
+    let ended = script.end();
+    let seen = ended.is(1).text();
+    assert!(
+        !seen.contains("batch-7: accepted"),
+        "no line for each; {ended}"
+    );
+    assert!(
+        seen.contains("bad: refused, verdict 9 ("),
+        "what is refused is said; {ended}"
+    );
+    let counts = "of 51 in the spool: 50 accepted, 1 refused, 0 changed, 0 failed";
+    assert!(seen.trim_end().ends_with(counts), "{ended}");
+    check_all_kept(&spool, &results);
     Ok(())
 }

@@ -112,7 +112,8 @@ fn a_batch_that_changes(room: &Room) -> Done {
         counted(ended.is(2), "2 accepted, 0 refused, 1 changed, 0 failed");
         let said = ended.said();
         let line = said.iter().find(|line| line.starts_with("batch-1: "));
-        assert!(line.is_some_and(|line| line.contains("changed")), "{ended}");
+        let named = line.is_some_and(|line| line.contains("report.txt"));
+        assert!(named, "the text that changed is named; {ended}");
         assert_eq!(row(&results, "batch-1").state, "changed");
         assert_eq!(kept(&results), before, "what was kept stays");
     }

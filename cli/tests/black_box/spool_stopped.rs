@@ -1,7 +1,7 @@
 //! Runs of `audit-all` that are stopped, or that meet another at work.
 
 use crate::harness::{tests, Done};
-use crate::results::{check_all_kept, check_kept_whole, kept, states};
+use crate::results::{check_all_kept, check_goes_on, states};
 use crate::room::{names_in, Room};
 use crate::run::{audit_all, collect, program, Ended};
 use crate::system::{heeds_interrupts, kill, lock, SIGINT, SIGTERM};
@@ -45,22 +45,8 @@ fn stopped(spool: &Path, results: &Path, signal: i32) -> Ended {
     collect(child, Duration::from_secs(30))
 }
 
-/// What was kept is whole, and the next run completes it and audits none of it again.
-#[track_caller]
-fn goes_on(spool: &Path, results: &Path) {
-    check_kept_whole(spool, results);
-    let (before, folder) = (kept(results), results.join("batches"));
-    audit_all(spool, results).is(0);
-    check_all_kept(spool, results);
-    let after = kept(results);
-    let same = before
-        .iter()
-        .all(|(path, held)| *path == folder || after.get(path) == Some(held));
-    assert!(same, "what was kept stays");
-}
-
 fn stopped_by_ctrl_c(room: &Room) -> Done {
-    let spool = room.spool("spool", "case-c", 1000);
+    let spool = room.spool("spool", "case-c", 400);
     let results = room.path("results");
     let ended = stopped(&spool, &results, SIGINT);
     let last = ended.is(2).said().pop().unwrap_or_default();
@@ -76,7 +62,7 @@ fn stopped_by_ctrl_c(room: &Room) -> Done {
     assert!(waiting > 0, "stopped before the end");
     let found = names_in(&results.join("batches")).len();
     let counts = format!(
-        "of 1000 in the spool: {found} accepted, 0 refused, 0 changed, 0 failed, {waiting} waiting"
+        "of 400 in the spool: {found} accepted, 0 refused, 0 changed, 0 failed, {waiting} waiting"
     );
     assert_eq!(last, counts);
     let states = states(&results);
@@ -84,17 +70,17 @@ fn stopped_by_ctrl_c(room: &Room) -> Done {
         states.values().filter(|state| *state == "waiting").count(),
         waiting
     );
-    assert_eq!(states.len(), 1000, "a row for each batch");
-    goes_on(&spool, &results);
+    assert_eq!(states.len(), 400, "a row for each batch");
+    check_goes_on(&spool, &results);
     Ok(())
 }
 
 /// It may end by the signal or by itself, and never as if it were done.
 fn stopped_by_a_kill_that_can_be_heeded(room: &Room) -> Done {
-    let (spool, results) = (room.spool("spool", "case-c", 1000), room.path("results"));
+    let (spool, results) = (room.spool("spool", "case-c", 400), room.path("results"));
     let ended = stopped(&spool, &results, SIGTERM);
     assert!(!matches!(ended.status.code(), Some(0 | 1)), "{ended}");
-    goes_on(&spool, &results);
+    check_goes_on(&spool, &results);
     Ok(())
 }
 

@@ -224,18 +224,24 @@ fn refused_at(ended: &Ended, verdict: u64, line: u64) {
     assert!(ended.is(1).text().starts_with(&front), "{ended}");
 }
 
+/// The verdict on a text that is too long names no line, and the sentence ends in no place.
+#[track_caller]
+fn check_overlong(ended: &Ended, verdict: u64) {
+    refused_at(ended, verdict, 0);
+    let sentence = ended.sentence();
+    assert!(
+        sentence.contains("has more than 65,535 bytes"),
+        "{sentence}"
+    );
+    assert!(!sentence.contains(", line "), "{sentence}");
+}
+
 fn one_byte_too_many(room: &Room) -> Done {
     for (command, text, verdict) in READ {
         let ended = with_text(room, command, text, |path| {
             fs::write(path, [b'x'; 65536]).unwrap()
         });
-        refused_at(&ended, verdict, 0);
-        assert!(
-            ended
-                .sentence()
-                .contains(&format!("{text} has more than 65,535 bytes")),
-            "{ended}"
-        );
+        check_overlong(&ended, verdict);
     }
     Ok(())
 }
@@ -248,13 +254,7 @@ fn make_sparse(path: &Path, length: u64) {
 fn ten_gigabytes(room: &Room) -> Done {
     for (command, text, verdict) in READ {
         let ended = with_text(room, command, text, |path| make_sparse(path, 10 << 30));
-        refused_at(&ended, verdict, 0);
-        assert!(
-            ended
-                .sentence()
-                .contains(&format!("{text} has more than 65,535 bytes")),
-            "{ended}"
-        );
+        check_overlong(&ended, verdict);
     }
     Ok(())
 }
