@@ -12,10 +12,11 @@ use crate::help;
 use crate::outcome::{print_to, say, standard_output, NotRun, Status};
 use crate::shown;
 use crate::system;
+use crate::texts;
+use progress::Progress;
 use results::Results;
 use std::collections::BTreeMap;
 use std::ffi::{OsStr, OsString};
-use std::fs;
 use std::os::unix::ffi::OsStrExt;
 use std::path::Path;
 use std::thread;
@@ -42,10 +43,20 @@ pub fn run(words: impl Iterator<Item = OsString>) -> Result<Status, NotRun> {
     let options = Options::read(&given)?;
     let [spool, folder] = given.exactly("two folders are")?;
     let (spool, folder) = (Path::new(spool), Path::new(folder));
+    // Where objects cannot be printed nothing is begun.
+    let mut output = match options.prints {
+        Prints::Objects => Some(standard_output()?),
+        Prints::Names(_) | Prints::Nothing => None,
+    };
     let results = Results::open(folder, spool)?;
     let names = batches_of(spool)?;
     system::note_signals();
-    let (findings, printed) = audit_all(spool, &results, &names, &options);
+    let mut printed = Ok(());
+    let findings = audit_batches(spool, &results, &names, options.jobs, |finding| {
+        if let (Some(output), Ok(())) = (&mut output, &printed) {
+            printed = print_to(output, finding.json().as_bytes());
+        }
+    });
     results.keep_table(&table::of(&results, &findings)?)?;
     printed?;
     print_names(&findings, &options)?;
@@ -91,15 +102,9 @@ fn jobs(word: Option<&OsStr>) -> Result<usize, NotRun> {
 
 /// The names of a spool that are batches, in their order.
 fn batches_of(spool: &Path) -> Result<Vec<OsString>, NotRun> {
-    let entries = fs::read_dir(spool).and_then(|entries| {
-        let names = entries.map(|entry| entry.map(|entry| entry.file_name()));
-        names.collect::<Result<Vec<OsString>, _>>()
-    });
-    let mut names = entries.map_err(|why| {
-        NotRun(format!(
-            "{} cannot be read: {why}",
-            shown::name(spool.as_os_str())
-        ))
+    let mut names = texts::names_in(spool).map_err(|why| {
+        let spool = shown::name(spool.as_os_str());
+        NotRun(format!("{spool} cannot be read: {why}"))
     })?;
     names.retain(|name| !name.as_bytes().starts_with(b"."));
     names.sort();
@@ -108,50 +113,34 @@ fn batches_of(spool: &Path) -> Result<Vec<OsString>, NotRun> {
 
 type Findings = BTreeMap<OsString, Finding>;
 
-/// Looks at every batch: what was found of each, and whether what was to be printed could be.
-fn audit_all(
+/// Looks at every batch, and hands on what is found of each. Those that a stopped run did not come to wait.
+fn audit_batches(
     spool: &Path,
     results: &Results,
     names: &[OsString],
-    options: &Options,
-) -> (Findings, Result<(), NotRun>) {
-    let mut findings = waiting(names);
-    let mut progress = progress::Progress::new(names.len());
-    let mut printed = Ok(());
-    let mut output = None;
-    if options.prints == Prints::Objects {
-        match standard_output() {
-            Ok(file) => output = Some(file),
-            Err(why) => printed = Err(why),
-        }
-    }
-    workers::run(
-        spool,
-        results,
-        names,
-        options.jobs,
-        &mut progress,
-        |finding| {
-            if let (Some(output), Ok(())) = (&mut output, &printed) {
-                printed = print_to(output, finding.json().as_bytes());
-            }
-            findings.insert(finding.batch.clone(), finding);
-        },
-    );
+    jobs: usize,
+    mut take: impl FnMut(&Finding),
+) -> Findings {
+    let mut findings = Findings::new();
+    let mut progress = Progress::new(names.len());
+    workers::run(spool, results, names, jobs, &mut progress, |finding| {
+        take(&finding);
+        findings.insert(finding.batch.clone(), finding);
+    });
     progress.end();
-    (findings, printed)
+    for name in names {
+        findings.entry(name.clone()).or_insert_with(|| {
+            let waiting = waiting(name);
+            take(&waiting);
+            waiting
+        });
+    }
+    findings
 }
 
-/// Before a run is through, its batches wait.
-fn waiting(names: &[OsString]) -> Findings {
-    let found = names.iter().map(|name| {
-        let sentence = "the run was stopped before it".to_owned();
-        (
-            name.clone(),
-            Finding::none(name.clone(), State::Waiting, sentence),
-        )
-    });
-    found.collect()
+fn waiting(name: &OsStr) -> Finding {
+    let sentence = "the run was stopped before it".to_owned();
+    Finding::none(name.to_owned(), State::Waiting, sentence)
 }
 
 fn print_names(findings: &Findings, options: &Options) -> Result<(), NotRun> {
@@ -192,10 +181,6 @@ fn ended(spool: &Path, findings: &Findings) -> Result<Status, NotRun> {
         .values()
         .map(|finding| finding.state.status())
         .max();
-    status.ok_or_else(|| {
-        NotRun(format!(
-            "there is no batch in {}",
-            shown::name(spool.as_os_str())
-        ))
-    })
+    let spool = shown::name(spool.as_os_str());
+    status.ok_or_else(|| NotRun(format!("there is no batch in {spool}")))
 }

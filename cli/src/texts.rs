@@ -3,8 +3,8 @@
 use crate::outcome::NotRun;
 use crate::shown;
 use crate::system;
-use std::ffi::CStr;
-use std::fs::File;
+use std::ffi::{CStr, OsString};
+use std::fs::{self, File};
 use std::io::{self, Read};
 use std::path::Path;
 
@@ -114,6 +114,14 @@ pub fn open_folder(path: &Path) -> Result<File, NotRun> {
             _ => NotRun(format!("{name} cannot be entered: {why}")),
         }
     })
+}
+
+/// The names in a folder.
+pub fn names_in(folder: &Path) -> io::Result<Vec<OsString>> {
+    let entries = fs::read_dir(folder)?;
+    entries
+        .map(|entry| entry.map(|entry| entry.file_name()))
+        .collect()
 }
 
 /// The first bytes of a file of a folder, or none where it is not there. A link that leads nowhere is there.

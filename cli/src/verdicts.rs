@@ -107,7 +107,7 @@ const VERDICTS: [Verdict; 17] = [
         next: UNREADABLE,
     },
     Verdict {
-        rule: "rid used twice, unknown program, response with no open request, or request never answered",
+        rule: "rid used twice, unknown program, response with no open request, request never answered",
         text: Some(Text::Trace),
         example: "trace `response=1,0,0`: line 1",
         next: "Keep the lane. The recorder's trace does not hold together: see that it is the whole trace of one batch, begun \
@@ -168,7 +168,7 @@ before its first request and ended after its last response.",
         next: UNREADABLE,
     },
     Verdict {
-        rule: "rid arrives twice, unknown program, turn of a rid not arrived, or a 1,025th operation",
+        rule: "rid arrives twice, unknown program, turn of a rid not arrived, a 1,025th operation",
         text: Some(Text::Schedule),
         example: "schedule `turn=1`: line 1",
         next: "Mend the schedule at the line that is named.",
@@ -218,6 +218,16 @@ mod tests {
                 "{}",
                 String::from_utf8_lossy(printed)
             );
+        }
+    }
+
+    #[test]
+    fn the_rules_are_those_of_the_document() {
+        let path = concat!(env!("CARGO_MANIFEST_DIR"), "/../docs/FORMATS.md");
+        let document = std::fs::read_to_string(path).unwrap();
+        for (number, verdict) in VERDICTS.iter().enumerate() {
+            let row = format!("\n| {number} | {}", verdict.rule);
+            assert!(document.contains(&row), "{number}");
         }
     }
 }

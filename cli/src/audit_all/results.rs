@@ -86,11 +86,8 @@ impl Results {
 
     /// The names that have a result.
     pub fn names(&self) -> Result<Vec<OsString>, NotRun> {
-        let entries = fs::read_dir(self.batches()).and_then(|entries| {
-            let names = entries.map(|entry| entry.map(|entry| entry.file_name()));
-            names.collect()
-        });
-        entries.map_err(|why| NotRun(format!("the kept results cannot be read: {why}")))
+        texts::names_in(&self.batches())
+            .map_err(|why| NotRun(format!("the kept results cannot be read: {why}")))
     }
 
     /// The result that was kept of a name, if any.

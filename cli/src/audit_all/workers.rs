@@ -48,11 +48,16 @@ pub fn run(
     };
     let (sender, receiver) = mpsc::channel();
     thread::scope(|scope| {
+        let mut started = 0;
         for _ in 0..jobs.min(names.len()) {
             let (work, sender) = (&work, sender.clone());
             let thread = thread::Builder::new().stack_size(STACK);
-            // Where a thread cannot be started the others do its work, and where none can be, what is left waits.
-            let _ = thread.spawn_scoped(scope, move || look_at_batches(work, &sender));
+            let thread = thread.spawn_scoped(scope, move || look_at_batches(work, &sender));
+            started += usize::from(thread.is_ok());
+        }
+        if started == 0 {
+            // No thread can be started: this one does the work.
+            look_at_batches(&work, &sender);
         }
         drop(sender);
         loop {
@@ -81,7 +86,7 @@ fn look_at_batches(work: &Work, sender: &Sender<Done>) {
             }
         }
         if group.len() == GROUP {
-            work.keep(group.drain(..).collect(), sender);
+            work.keep(std::mem::take(&mut group), sender);
         }
     }
     work.keep(group, sender);
