@@ -4,7 +4,8 @@ use crate::examples::check_recorded;
 use crate::harness::{tests, Done};
 use crate::results::rows;
 use crate::room::{example, expected, names_in, read, Room, TEXTS};
-use crate::run::{audit, audit_all, program, record, Ended, Run};
+use crate::run::{audit, audit_all, program, record, Run};
+use crate::traced::traced;
 use std::fs;
 use std::path::Path;
 use std::sync::atomic::{AtomicBool, Ordering};
@@ -16,6 +17,7 @@ tests![
     a_report_that_is_moved_away_and_back,
     a_report_that_is_moved_away_and_back_and_may_be_missing,
     programs_that_are_exchanged_under_a_record,
+    a_report_that_is_exchanged_between_system_calls,
 ];
 
 /// Does `turn` over and over in a thread of its own while `work` runs.
@@ -63,7 +65,8 @@ fn reports() -> [Vec<u8>; 2] {
 }
 
 /// What is kept of the only batch belongs together, and is what the run said.
-fn check_kept(results: &Path, ended: &Ended) {
+#[track_caller]
+fn check_kept(results: &Path, ended: Option<i32>) {
     let kept = results.join("batches/batch-1");
     let [good, bad] = reports();
     let report = read(kept.join("report.txt"));
@@ -79,9 +82,9 @@ fn check_kept(results: &Path, ended: &Ended) {
     assert_eq!(
         read(kept.join("output")),
         expected(name),
-        "the output is of the kept report; {ended}"
+        "the output is of the kept report"
     );
-    ended.is(status);
+    assert_eq!(ended, Some(status));
     audit(&kept).is(status).printed(expected(name));
     let row = rows(results).remove(0);
     assert_eq!(row.state, if status == 0 { "accepted" } else { "refused" });
@@ -98,7 +101,7 @@ fn a_report_that_is_exchanged_in_a_spool(room: &Room) -> Done {
             for number in 0..150 {
                 let results = room.path(&format!("results-{number}"));
                 let ended = audit_all(&spool, &results);
-                check_kept(&results, &ended);
+                check_kept(&results, ended.status.code());
             }
         },
     );
@@ -183,5 +186,26 @@ fn programs_that_are_exchanged_under_a_record(room: &Room) -> Done {
             }
         }
     });
+    Ok(())
+}
+
+/// The report is exchanged at every stop of a run, at every second, and so on: so that every two looks at it differ for some.
+fn a_report_that_is_exchanged_between_system_calls(room: &Room) -> Done {
+    let spool = room.spool("spool", "case-c", 1);
+    let (report, spare) = (spool.join("batch-1/report.txt"), room.path("spare"));
+    let mut versions = reports();
+    for (every, from) in (1..=12).flat_map(|every| (0..every).map(move |from| (every, from))) {
+        let results = room.path(&format!("results-{every}-{from}"));
+        let mut program = program("audit-all");
+        program.args(["--jobs", "1"]).arg(&spool).arg(&results);
+        let ended = traced(&mut program, |stop, _| {
+            if stop % every == from {
+                fs::write(&spare, &versions[0]).unwrap();
+                fs::rename(&spare, &report).unwrap();
+                versions.swap(0, 1);
+            }
+        })?;
+        check_kept(&results, ended.status.code());
+    }
     Ok(())
 }

@@ -1,11 +1,12 @@
 //! `record` and `audit-all` killed at many moments: what is there is whole, and the next run completes it.
 
 use crate::examples::check_recorded;
-use crate::harness::{skip, tests, Done};
+use crate::harness::{tests, Done, Skipped};
 use crate::results::check_goes_on;
 use crate::room::{example, names_in, Room};
 use crate::run::{audit_all, program, record};
-use crate::traced::{killed_at, Traced};
+use crate::system::{kill, SIGKILL};
+use crate::traced::traced;
 use std::fs;
 use std::os::unix::ffi::OsStrExt;
 use std::os::unix::process::ExitStatusExt;
@@ -31,7 +32,7 @@ fn killed_after(command: &mut Command, delay: Duration) -> bool {
         .unwrap();
     thread::sleep(delay);
     let _ = child.kill();
-    child.wait().unwrap().signal() == Some(9)
+    child.wait().unwrap().signal() == Some(SIGKILL)
 }
 
 fn recording(out: &Path) -> Command {
@@ -89,16 +90,22 @@ fn record_killed_at_spread_moments(room: &Room) -> Done {
     panic!("only {killed} of 400 kills met it at work");
 }
 
-/// The moments of a kill that tell are between system calls, and this is all of them.
-fn record_killed_at_every_system_call(room: &Room) -> Done {
-    let mut kills = 0;
-    for stops in (0..20_000).step_by(2) {
-        let place = room.folder("place");
-        match killed_at(&mut recording(&place.join("out")), stops) {
-            Traced::Killed => kills += 1,
-            Traced::Ended(_) => break,
-            Traced::Refused => return skip("ptrace is not permitted"),
+/// Kills a command at one of its stops; false where it ended before.
+fn killed_at(command: &mut Command, moment: usize) -> Result<bool, Skipped> {
+    let ended = traced(command, |stop, pid| {
+        if stop == moment {
+            kill(pid, SIGKILL);
         }
+    })?;
+    Ok(ended.status.signal() == Some(SIGKILL))
+}
+
+fn record_killed_at_every_system_call(room: &Room) -> Done {
+    let all = traced(&mut recording(&room.path("whole")), |_, _| {})?.stops;
+    let mut kills = 0;
+    for moment in 0..all {
+        let place = room.folder("place");
+        kills += usize::from(killed_at(&mut recording(&place.join("out")), moment)?);
         record_goes_on(&place);
         fs::remove_dir_all(place).unwrap();
     }
@@ -138,14 +145,10 @@ fn audit_all_killed_at_spread_moments(room: &Room) -> Done {
 /// A run over three batches, killed at a hundred places among its system calls.
 fn audit_all_killed_at_system_calls(room: &Room) -> Done {
     let (spool, results) = (room.spool("spool", "case-c", 3), room.path("results"));
-    let Traced::Ended(all) = killed_at(&mut auditing(&spool, &room.path("whole")), usize::MAX)
-    else {
-        return skip("ptrace is not permitted");
-    };
+    let all = traced(&mut auditing(&spool, &room.path("whole")), |_, _| {})?.stops;
     let mut kills = 0;
-    for stops in (0..all).step_by(1 + all / 100) {
-        let traced = killed_at(&mut auditing(&spool, &results), stops);
-        kills += usize::from(traced == Traced::Killed);
+    for moment in (0..all).step_by(1 + all / 100) {
+        kills += usize::from(killed_at(&mut auditing(&spool, &results), moment)?);
         check_goes_on(&spool, &results);
         fs::remove_dir_all(&results).unwrap();
     }

@@ -4,6 +4,7 @@ use crate::examples::check_recorded;
 use crate::harness::{tests, Done};
 use crate::room::{example, names, names_in, tree, Room};
 use crate::run::{audit, collect, program, record, Ended, Run};
+use crate::traced::traced;
 use std::fs;
 use std::os::unix::fs::symlink;
 use std::path::Path;
@@ -24,6 +25,7 @@ tests![
     two_at_once_of_different_batches,
     two_at_once_of_the_same_batch,
     texts_are_for_everyone_to_read,
+    an_out_that_appears_meanwhile,
 ];
 
 fn the_same_batch_again(room: &Room) -> Done {
@@ -238,5 +240,40 @@ fn texts_are_for_everyone_to_read(room: &Room) -> Done {
     let mode = |path: &Path| fs::metadata(path).unwrap().permissions().mode() & 0o777;
     assert_eq!((mode(&out), mode(&out.join("report.txt"))), (0o755, 0o644));
     audit(&out).is(0);
+    Ok(())
+}
+
+/// A folder of OUT's name is made at each moment of a run, between two system calls: if OUT was not there yet, it is not ours.
+fn an_out_that_appears_meanwhile(room: &Room) -> Done {
+    let out = room.path("out");
+    let recording = || {
+        let mut program = program("record");
+        program.arg(example("case-c")).arg(&out);
+        program
+    };
+    let all = traced(&mut recording(), |_, _| {})?.stops;
+    for moment in 0..all {
+        let mut made = false;
+        fs::remove_dir_all(&out).unwrap();
+        let ended = traced(&mut recording(), |stop, _| {
+            made |= stop == moment && fs::create_dir(&out).is_ok();
+        })?;
+        let status = if made { 2 } else { 0 };
+        assert_eq!(
+            ended.status.code(),
+            Some(status),
+            "at stop {moment} of {all}"
+        );
+        assert_eq!(
+            names_in(&out).len(),
+            if made { 0 } else { 3 },
+            "at stop {moment} of {all}"
+        );
+    }
+    assert_eq!(
+        names_in(&room.path("")),
+        names(["out"]),
+        "nothing else is left"
+    );
     Ok(())
 }

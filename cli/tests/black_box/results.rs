@@ -101,7 +101,10 @@ pub fn shown(name: &OsStr) -> String {
         for c in chunk.valid().chars() {
             match c {
                 '\\' => shown.push_str("\\\\"),
-                c if c.is_control() => shown.push_str(&hidden(c.to_string().as_bytes())),
+                // A control character, or one that turns the direction of writing.
+                c if c.is_control() || c == '\u{202e}' => {
+                    shown.push_str(&hidden(c.to_string().as_bytes()))
+                }
                 c => shown.push(c),
             }
         }

@@ -128,6 +128,7 @@ fn results_in_the_spool(room: &Room) -> Done {
         "link/results",
         "link-to-batch/results",
         "spool/../spool/results",
+        "nowhere/../spool/results",
         "./spool//results/",
     ];
     for place in places {

@@ -21,7 +21,7 @@ tests![
 ];
 
 /// Names that a shell, a terminal or a reader of the table could take for something else.
-const NAMES: [&[u8]; 30] = [
+const NAMES: [&[u8]; 31] = [
     b"-dash",
     b"--jobs",
     b"--",
@@ -51,6 +51,7 @@ const NAMES: [&[u8]; 30] = [
     "K\u{e4}se".as_bytes(),
     "\u{65e5}\u{672c}".as_bytes(),
     "next\u{85}line".as_bytes(),
+    "turned\u{202e}txt".as_bytes(),
     b"not \xff utf-8 \xc3",
 ];
 
@@ -61,7 +62,7 @@ fn spool_of_names(room: &Room) -> PathBuf {
     for name in NAMES.into_iter().chain([&longest[..]]) {
         copy_folder(&example("case-b"), &spool.join(OsStr::from_bytes(name)));
     }
-    assert_eq!(batches(&spool).len(), 31);
+    assert_eq!(batches(&spool).len(), 32);
     spool
 }
 
@@ -71,10 +72,10 @@ fn names_are_kept_and_shown(room: &Room) -> Done {
         let ended = audit_all(&spool, &results);
         ended
             .is(1)
-            .said_part("of 31 in the spool: 0 accepted, 31 refused, 0 changed, 0 failed");
+            .said_part("of 32 in the spool: 0 accepted, 32 refused, 0 changed, 0 failed");
         check_all_kept(&spool, &results);
         let said = ended.said();
-        assert_eq!(said.len(), 32, "run {run}: a line for each and the counts");
+        assert_eq!(said.len(), 33, "run {run}: a line for each and the counts");
         for name in batches(&spool) {
             let line = format!(
                 "{}: refused, verdict 9 (the order returns to itself)",
@@ -116,6 +117,7 @@ fn names_as_promised(room: &Room) -> Done {
         "\\\\x41",
         "escape\\x1b[31m",
         "next\\xc2\\x85line",
+        "turned\\xe2\\x80\\xaetxt",
         "not \\xff utf-8 \\xc3",
     ] {
         let found = names.iter().any(|shown| shown.eq_ignore_ascii_case(name));
@@ -145,7 +147,7 @@ fn names_in_lists(room: &Room) -> Done {
         .filter(|n| !n.is_empty())
         .collect();
     assert_eq!(names, names_in(&spool), "as they are");
-    assert_eq!(ended_by_zero.iter().filter(|b| **b == 0).count(), 31);
+    assert_eq!(ended_by_zero.iter().filter(|b| **b == 0).count(), 32);
     let lines = String::from_utf8(list(None, &spool, &results)).expect("UTF-8");
     let lines: BTreeSet<String> = lines
         .split_terminator('\n')
@@ -173,7 +175,7 @@ fn names_in_json(room: &Room) -> Done {
         .arg(&results)
         .end();
     let objects = objects(&ended.is(1).stdout);
-    assert_eq!(objects.len(), 31);
+    assert_eq!(objects.len(), 32);
     for name in batches(&spool) {
         let mut found = objects
             .iter()

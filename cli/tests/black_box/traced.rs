@@ -1,16 +1,18 @@
-//! A command that is stopped at its system calls, and killed at one of them: the moments of a kill that tell.
+//! A command that is stopped before and behind each of its system calls: between them are the moments at which a kill, or an
+//! exchange of files, makes a difference.
 
-use crate::system::{kill, ptrace, waitpid, SIGKILL};
+use crate::harness::{skip, Skipped};
+use crate::system::{ptrace, waitpid};
 use std::ffi::{c_int, c_void};
 use std::io;
-use std::os::unix::process::CommandExt;
-use std::process::{Command, Stdio};
+use std::os::unix::process::{CommandExt, ExitStatusExt};
+use std::process::{Command, ExitStatus, Stdio};
 use std::ptr;
 
 const TRACE_ME: i64 = 0;
 const GO_TO_CALL: i64 = 24;
 const SET_OPTIONS: i64 = 0x4200;
-/// Threads are traced too, a stop at a call is told from others, and all end with this program.
+/// A stop at a call is told from others, threads are traced too, and all end with this program.
 const OPTIONS: usize = 1 | 8 | 0x10_0000;
 /// Of this thread's own children alone, and their threads.
 const OWN: c_int = 0x4000_0000 | 0x2000_0000;
@@ -18,19 +20,36 @@ const STOP_AT_CALL: c_int = 5 | 0x80;
 const TRAP: c_int = 5;
 const STOP: c_int = 19;
 
-/// What became of a traced command.
-#[derive(Debug, PartialEq, Eq)]
-pub enum Traced {
-    /// It was killed where it was asked to be.
-    Killed,
-    /// It ended before, after so many stops.
-    Ended(usize),
-    /// Tracing is not permitted here.
-    Refused,
+/// A command that ended.
+pub struct Traced {
+    /// How often it was stopped.
+    pub stops: usize,
+    pub status: ExitStatus,
 }
 
-/// Runs a command until it has stopped so often, before or behind a system call, and kills it there.
-pub fn killed_at(command: &mut Command, stops: usize) -> Traced {
+/// Runs a command to its end, and calls `at` at each stop with its number and the process. Nobody hears what it prints.
+pub fn traced(command: &mut Command, mut at: impl FnMut(usize, u32)) -> Result<Traced, Skipped> {
+    let pid = begun(command)?;
+    let (mut stops, mut ended) = (0, None);
+    while let Some((who, status)) = wait() {
+        let Some(signal) = stopped(status) else {
+            ended = ended.or((who == pid).then_some(status));
+            continue;
+        };
+        if signal == STOP_AT_CALL {
+            at(stops, pid as u32);
+            stops += 1;
+        }
+        // Stops of the tracing itself are no signals to hand on.
+        let ours = [STOP_AT_CALL, TRAP, STOP].contains(&signal);
+        order(GO_TO_CALL, who, if ours { 0 } else { signal as usize });
+    }
+    let status = ExitStatus::from_raw(ended.expect("the process ends last"));
+    Ok(Traced { stops, status })
+}
+
+/// Starts a command that is traced; it goes on to its first call.
+fn begun(command: &mut Command) -> Result<c_int, Skipped> {
     command
         .stdin(Stdio::null())
         .stdout(Stdio::null())
@@ -45,7 +64,7 @@ pub fn killed_at(command: &mut Command, stops: usize) -> Traced {
         );
     }
     let Ok(child) = command.spawn() else {
-        return Traced::Refused;
+        return skip("ptrace is not permitted");
     };
     let pid = child.id() as c_int;
     let first = wait();
@@ -55,30 +74,7 @@ pub fn killed_at(command: &mut Command, stops: usize) -> Traced {
     );
     order(SET_OPTIONS, pid, OPTIONS);
     order(GO_TO_CALL, pid, 0);
-    step(pid, stops)
-}
-
-/// Lets the threads of a process go on from stop to stop.
-fn step(pid: c_int, stops: usize) -> Traced {
-    let mut seen = 0;
-    while let Some((who, status)) = wait() {
-        let Some(signal) = stopped(status) else {
-            if who == pid {
-                return Traced::Ended(seen);
-            }
-            continue;
-        };
-        seen += usize::from(signal == STOP_AT_CALL);
-        if seen > stops {
-            kill(pid as u32, SIGKILL);
-            while wait().is_some() {}
-            return Traced::Killed;
-        }
-        // Stops of the tracing itself are no signals to hand on.
-        let ours = [STOP_AT_CALL, TRAP, STOP].contains(&signal);
-        order(GO_TO_CALL, who, if ours { 0 } else { signal as usize });
-    }
-    Traced::Ended(seen)
+    Ok(pid)
 }
 
 /// The next of this thread's traced threads that stopped or ended, and how; none where there is none left.
