@@ -75,7 +75,7 @@ fn number_of(digits: &[u8]) -> Option<u64> {
 }
 
 const UNREADABLE: &str = "Look at the line that is named: its form, the range of each number and how many lines of its kind \
-there may be stand in docs/FORMATS.md. Where the file was sent or copied, send it again whole and unchanged; editors and mail \
+there may be stand in FORMATS.md. Where the file was sent or copied, send it again whole and unchanged; editors and mail \
 programs change line ends.";
 
 const HOST_AT_FAULT: &str = "Keep the lane and the three files. The report does not fit what the recorder saw: ask the hosting \
@@ -98,7 +98,7 @@ const VERDICTS: [Verdict; 17] = [
         rule: "a program rule broken",
         text: Some(Text::Programs),
         example: "programs `program=0`, `do=0,8,0,0`: line 2, since there is no local 8",
-        next: "Hold the line against the table of codes in docs/FORMATS.md, and give the programs that the host really ran.",
+        next: "Hold the line against the table of codes in FORMATS.md, and give the programs that the host really ran.",
     },
     Verdict {
         rule: "trace unreadable",
