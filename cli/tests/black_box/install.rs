@@ -1,7 +1,8 @@
 //! tools/install PREFIX: what it puts there works without the sources, without rt, and with an empty environment.
 
 use crate::arguments::COMMANDS;
-use crate::harness::{skip, tests, Done, Skipped};
+use crate::harness::{tests, Done};
+use crate::launcher::with_rt;
 use crate::library::check_example;
 use crate::room::{example, expected, read, root, Room};
 use crate::run::{is_there, Run, PROGRAM};
@@ -13,22 +14,18 @@ use std::time::Duration;
 tests![what_is_installed];
 
 /// Installs into a new folder. It may build first.
-fn installed(room: &Room) -> Result<PathBuf, Skipped> {
-    if !is_there("rt") {
-        return skip("rt is not installed");
-    }
+fn installed(room: &Room) -> PathBuf {
     let prefix = room.path("prefix");
     let mut install = Command::new(root().join("tools/install"));
-    install
-        .arg(&prefix)
-        .end_within(Duration::from_secs(300))
-        .is(0);
-    Ok(prefix)
+    let ended = install.arg(&prefix).end_within(Duration::from_secs(300));
+    ended.is(0);
+    prefix
 }
 
 /// One test, since installing takes a while.
 fn what_is_installed(room: &Room) -> Done {
-    let prefix = installed(room)?;
+    let _one = with_rt()?;
+    let prefix = installed(room);
     check_programs(room, &prefix);
     check_library(room, &prefix);
     check_manual(&prefix.join("share/man/man1/teaselshears.1"));

@@ -1,13 +1,14 @@
 //! tools/teaselshears, the bash script that runs the program from the sources: the same for every environment and from every
 //! place.
 
-use crate::harness::{skip, tests, Done, Skipped};
+use crate::harness::{tests, Done, Skipped};
 use crate::room::{copy_folder, example, expected, names_in, root, Room};
-use crate::run::{is_there, Run};
+use crate::run::{needs, Run};
 use std::fs::{self, Permissions};
 use std::os::unix::fs::{symlink, PermissionsExt};
 use std::path::{Path, PathBuf};
 use std::process::Command;
+use std::sync::{Mutex, MutexGuard, PoisonError};
 use std::time::Duration;
 
 tests![
@@ -18,11 +19,16 @@ tests![
 /// The first call may prove and build.
 const LIMIT: Duration = Duration::from_secs(300);
 
-fn launcher() -> Result<PathBuf, Skipped> {
-    if !is_there("rt") {
-        return skip("rt is not installed");
-    }
-    Ok(root().join("tools/teaselshears"))
+/// Held by a test for as long as it runs what calls rt: two of them at once in one repository undo one another's work.
+pub fn with_rt() -> Result<MutexGuard<'static, ()>, Skipped> {
+    static ONE_AT_A_TIME: Mutex<()> = Mutex::new(());
+    needs("rt")?;
+    // A test that failed has left nothing half done here.
+    Ok(ONE_AT_A_TIME.lock().unwrap_or_else(PoisonError::into_inner))
+}
+
+fn launcher() -> PathBuf {
+    root().join("tools/teaselshears")
 }
 
 /// The launcher, changed by `change`, gives the verdicts of an accepted and of a refused batch.
@@ -97,7 +103,7 @@ fn variables(room: &Room) -> Vec<(&'static str, String)> {
 
 /// One test, since every call waits for the same locks of rt and cargo.
 fn the_launcher_whatever_the_environment(room: &Room) -> Done {
-    let launcher = launcher()?;
+    let (_one, launcher) = (with_rt()?, launcher());
     check_same("the environment as it is", &launcher, |_| {});
     for (name, value) in variables(room) {
         check_same(&format!("{name}={value}"), &launcher, |command| {
@@ -122,7 +128,7 @@ fn the_launcher_whatever_the_environment(room: &Room) -> Done {
 
 /// Where the sources cannot be proved, a program that lies there from before is not run.
 fn a_launcher_that_cannot_build(room: &Room) -> Done {
-    launcher()?;
+    needs("rt")?;
     copy_folder(&root().join("tools"), &room.folder("copy/tools"));
     for name in names_in(&room.path("copy/tools")) {
         let path = room.path("copy/tools").join(name);

@@ -38,7 +38,6 @@ fn main() -> ExitCode {
     // The slow ones first, so that the two that run at a time end together.
     let tests = [
         launcher::TESTS,
-        install::TESTS,
         kills::TESTS,
         spool_stopped::TESTS,
         exchange::TESTS,
@@ -57,6 +56,7 @@ fn main() -> ExitCode {
         many::TESTS,
         disk::TESTS,
         library::TESTS,
+        install::TESTS,
     ];
     harness::run(&tests.concat())
 }
