@@ -1,9 +1,10 @@
 //! Commands, options and arguments: what is taken, what is not, and that nothing is made of what is not.
 
 use crate::harness::{tests, Done};
-use crate::room::{example, expected, names, names_in, tree, Room};
+use crate::room::{check_recorded, copy_folder, example, expected, names, names_in, tree, Room};
 use crate::run::{audit, program, record, Ended, Run, PROGRAM};
 use std::ffi::OsStr;
+use std::fs;
 use std::os::unix::ffi::OsStrExt;
 use std::process::Command;
 
@@ -273,7 +274,7 @@ fn options_behind_arguments(room: &Room) -> Done {
     let before = program("audit").arg("--json").arg(&batch).end();
     let behind = program("audit").arg(&batch).arg("--json").end();
     behind.is(0).printed(&before.is(0).stdout);
-    std::fs::remove_file(batch.join("schedule.txt")).unwrap();
+    fs::remove_file(batch.join("schedule.txt")).unwrap();
     program("record")
         .arg(&batch)
         .arg(room.path("out"))
@@ -366,11 +367,11 @@ fn lists_of_no_state(room: &Room) -> Done {
 fn bytes_that_are_not_utf8(room: &Room) -> Done {
     let name = OsStr::from_bytes(b"b\xffch");
     let folder = room.path("").join(name);
-    crate::room::copy_folder(&example("case-c"), &folder);
+    copy_folder(&example("case-c"), &folder);
     audit(&folder).is(0).printed(expected("case-c"));
     let out = room.path("").join(OsStr::from_bytes(b"\xfe"));
     record(&folder, &out).is(0).sentence();
-    crate::examples::check_recorded("case-c", &out);
+    check_recorded("case-c", &out);
     let option = OsStr::from_bytes(b"--j\xff");
     program("audit")
         .arg(option)

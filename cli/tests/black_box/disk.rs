@@ -1,9 +1,8 @@
 //! Disks without room: nothing half is left, the status is 2, and with room again all is completed.
 
-use crate::examples::check_recorded;
 use crate::harness::{skip, tests, Done, Skipped};
 use crate::results::{check_all_kept, check_kept_whole};
-use crate::room::{example, names, names_in, Room};
+use crate::room::{check_recorded, example, names, names_in, Room};
 use crate::run::{audit_all, record, shell, Run, PROGRAM};
 use crate::system::is_root;
 use std::fs::File;

@@ -1,7 +1,8 @@
 //! Nothing in the environment changes a verdict, a status or what is printed.
 
 use crate::harness::{skip, tests, Done, Skipped};
-use crate::room::{example, expected, Room};
+use crate::results::check_all_kept;
+use crate::room::{check_recorded, example, expected, Room};
 use crate::run::{needs, program, shell, Run, PROGRAM};
 use std::ffi::OsStr;
 use std::fs;
@@ -66,7 +67,7 @@ fn an_empty_environment(room: &Room) -> Done {
         .env_clear()
         .end()
         .is(0);
-    crate::results::check_all_kept(&spool, &results);
+    check_all_kept(&spool, &results);
     Ok(())
 }
 
@@ -131,7 +132,7 @@ fn variables_of_the_runtime(room: &Room) -> Done {
             .env(name, value)
             .end()
             .is(0);
-        crate::results::check_all_kept(&spool, &results);
+        check_all_kept(&spool, &results);
     }
     Ok(())
 }
@@ -244,7 +245,7 @@ fn a_small_stack(room: &Room) -> Done {
         .arg(&out)
         .end();
     ended.is(0).printed("verdict=0\nline=0\n");
-    crate::examples::check_recorded("case-c", &out);
+    check_recorded("case-c", &out);
     Ok(())
 }
 
@@ -258,6 +259,6 @@ fn a_spool_with_a_small_stack(room: &Room) -> Done {
         results.as_ref(),
     ];
     shell(SMALL_STACK).args(arguments).end().is(0);
-    crate::results::check_all_kept(&spool, &results);
+    check_all_kept(&spool, &results);
     Ok(())
 }

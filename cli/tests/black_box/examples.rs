@@ -3,7 +3,7 @@
 use crate::harness::{skip, tests, Done, Skipped};
 use crate::json::{only_object, text, Object, Value};
 use crate::room::{
-    audited_examples, example, examples, expected, names, names_in, read, root, Room, TEXTS,
+    audited_examples, check_recorded, example, examples, expected, names_in, read, root, Room,
 };
 use crate::run::{audit, program, record, Run};
 use std::collections::BTreeSet;
@@ -197,16 +197,6 @@ fn record_of_every_schedule(room: &Room) -> Done {
         "some are recorded, and nothing else is left"
     );
     Ok(())
-}
-
-/// OUT holds the three texts of an example, and nothing else.
-#[track_caller]
-pub fn check_recorded(name: &str, out: &Path) {
-    assert_eq!(names_in(out), names(TEXTS), "{}", out.display());
-    for text in TEXTS {
-        let (written, own) = (read(out.join(text)), read(example(name).join(text)));
-        assert!(written == own, "{text} of {name} in {}", out.display());
-    }
 }
 
 fn record_of_programs_that_are_refused(room: &Room) -> Done {

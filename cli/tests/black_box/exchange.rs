@@ -1,9 +1,8 @@
 //! Texts that are exchanged, or moved away and back, while the program reads them: what it says is of what it read.
 
-use crate::examples::check_recorded;
 use crate::harness::{tests, Done};
 use crate::results::rows;
-use crate::room::{example, expected, names_in, read, Room, TEXTS};
+use crate::room::{check_recorded, example, expected, names, names_in, read, Room, TEXTS};
 use crate::run::{audit, audit_all, program, record, Run};
 use crate::traced::traced;
 use std::fs;
@@ -180,7 +179,7 @@ fn programs_that_are_exchanged_under_a_record(room: &Room) -> Done {
             let out = room.path(&format!("out-{number}"));
             record(&batch, &out).is(0);
             audit(&out).is(0);
-            assert_eq!(names_in(&out), crate::room::names(TEXTS));
+            assert_eq!(names_in(&out), names(TEXTS));
             if read(out.join("programs.txt")) == own {
                 check_recorded("case-c", &out);
             }

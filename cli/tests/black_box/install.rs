@@ -4,7 +4,7 @@ use crate::arguments::COMMANDS;
 use crate::harness::{tests, Done};
 use crate::launcher::with_rt;
 use crate::library::check_example;
-use crate::room::{example, expected, read, root, Room};
+use crate::room::{check_recorded, example, expected, read, root, Room};
 use crate::run::{is_there, Run, PROGRAM};
 use std::collections::BTreeSet;
 use std::path::{Path, PathBuf};
@@ -33,47 +33,29 @@ fn what_is_installed(room: &Room) -> Done {
 }
 
 fn check_programs(room: &Room, prefix: &Path) {
-    let program = prefix.join("bin/teaselshears");
+    let (path, out) = (prefix.join("bin/teaselshears"), room.path("out"));
+    let program = |command: &str| {
+        let mut program = Command::new(&path);
+        program.arg(command).env_clear().current_dir("/");
+        program
+    };
     for (name, status) in [("case-c", 0), ("case-b", 1)] {
-        let ended = Command::new(&program)
-            .arg("audit")
-            .arg(example(name))
-            .env_clear()
-            .end();
+        let ended = program("audit").arg(example(name)).end();
         ended.is(status).printed(expected(name));
     }
-    let run = |argument: &str| {
-        Command::new(&program)
-            .arg(argument)
-            .env_clear()
-            .current_dir("/")
-            .end()
-    };
     let own = Command::new(PROGRAM).arg("--version").end();
-    run("--version").is(0).printed(&own.stdout);
-    let out = room.path("out");
-    let ended = Command::new(&program)
-        .arg("record")
-        .arg(example("case-c"))
-        .arg(&out)
-        .env_clear()
-        .end();
+    program("--version").end().is(0).printed(&own.stdout);
+    let ended = program("record").arg(example("case-c")).arg(&out).end();
     ended.is(0).printed("verdict=0\nline=0\n");
-    crate::examples::check_recorded("case-c", &out);
-    let proved = |name: &str| Command::new(prefix.join("libexec/teaselshears").join(name));
-    proved("audit")
-        .current_dir(example("case-c"))
-        .env_clear()
-        .end()
-        .is(0)
-        .printed(expected("case-c"));
-    let name = "refused-13-schedule-unreadable";
-    proved("record")
-        .current_dir(example(name))
-        .env_clear()
-        .end()
-        .is(0)
-        .printed(expected(name));
+    check_recorded("case-c", &out);
+    for (command, name) in [
+        ("audit", "case-b"),
+        ("record", "refused-13-schedule-unreadable"),
+    ] {
+        let mut proved = Command::new(prefix.join("libexec/teaselshears").join(command));
+        let ended = proved.current_dir(example(name)).env_clear().end();
+        ended.is(0).printed(expected(name));
+    }
 }
 
 /// Library and header are found by pkg-config, and a program in C is built with what it says.

@@ -1,9 +1,8 @@
 //! `record` and `audit-all` killed at many moments: what is there is whole, and the next run completes it.
 
-use crate::examples::check_recorded;
 use crate::harness::{tests, Done, Skipped};
 use crate::results::check_goes_on;
-use crate::room::{example, names_in, Room};
+use crate::room::{check_recorded, example, names_in, Room};
 use crate::run::{audit_all, program, record};
 use crate::system::{kill, SIGKILL};
 use crate::traced::traced;

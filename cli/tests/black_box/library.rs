@@ -1,7 +1,7 @@
 //! The library of the proved functions, as programs in C, C++ and Rust use it.
 
 use crate::harness::{skip, tests, Done, Skipped};
-use crate::room::{root, Room};
+use crate::room::{read, root, Room};
 use crate::run::{needs, Run};
 use std::path::{Path, PathBuf};
 use std::process::Command;
@@ -104,7 +104,7 @@ fn the_header_alone(room: &Room) -> Done {
         ]);
         compiler.arg(folder()).arg(file).end().is(0);
     }
-    let header = String::from_utf8(crate::room::read(folder().join("teaselshears.h"))).unwrap();
+    let header = String::from_utf8(read(folder().join("teaselshears.h"))).unwrap();
     assert!(header.contains("extern \"C\""));
     for verdict in 0..=16 {
         let ends = |line: &str| {

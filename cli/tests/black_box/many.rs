@@ -5,7 +5,7 @@ use crate::json::{objects, text, Object, Value};
 use crate::room::{copy_folder, example, Room};
 use crate::run::{needs, program, shell, Ended, Run, PROGRAM};
 use std::ffi::OsStr;
-use std::fs::File;
+use std::fs::{self, File};
 use std::os::unix::ffi::OsStrExt;
 use std::process::{Command, Stdio};
 
@@ -130,7 +130,7 @@ fn a_folder_that_is_not_there_among_them(room: &Room) -> Done {
 
 fn missing_texts_among_them(room: &Room) -> Done {
     let batch = room.batch("lacks", "empty");
-    std::fs::remove_file(batch.join("trace.txt")).unwrap();
+    fs::remove_file(batch.join("trace.txt")).unwrap();
     room.folder("nothing");
     assert_eq!(
         states(several(room, &[], b"lacks\n").is(2)),

@@ -1,12 +1,11 @@
 //! `record`: where OUT may be, what is left alone, and two runs at once.
 
-use crate::examples::check_recorded;
 use crate::harness::{tests, Done};
-use crate::room::{example, names, names_in, tree, Room};
-use crate::run::{audit, collect, program, record, Ended, Run};
+use crate::room::{check_recorded, example, names, names_in, tree, Room, TEXTS};
+use crate::run::{audit, collect, program, record, shell, Ended, Run, PROGRAM};
 use crate::traced::traced;
 use std::fs;
-use std::os::unix::fs::symlink;
+use std::os::unix::fs::{symlink, PermissionsExt};
 use std::path::Path;
 use std::process::Stdio;
 use std::time::Duration;
@@ -58,7 +57,7 @@ fn another_thing_in_the_place_of_out(room: &Room) -> Done {
     left_alone(room, &room.file("file-of-nothing", ""));
     left_alone(room, &room.batch("other", "stores"));
     left_alone(room, &room.batch("more", "case-c"));
-    for missing in crate::room::TEXTS {
+    for missing in TEXTS {
         let name = format!("lacks-{missing}");
         record(example("case-c"), room.path(&name)).is(0);
         fs::remove_file(room.path(&name).join(missing)).unwrap();
@@ -226,12 +225,11 @@ fn two_at_once_of_the_same_batch(room: &Room) -> Done {
 
 /// A batch is for others to audit: it is made with the permissions that files have by the umask.
 fn texts_are_for_everyone_to_read(room: &Room) -> Done {
-    use std::os::unix::fs::PermissionsExt;
     let out = room.path("out");
     let script = "umask 022 && exec \"$@\"";
-    let mut shell = crate::run::shell(script);
+    let mut shell = shell(script);
     shell
-        .arg(crate::run::PROGRAM)
+        .arg(PROGRAM)
         .arg("record")
         .arg(example("case-c"))
         .arg(&out)

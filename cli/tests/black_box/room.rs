@@ -112,6 +112,16 @@ pub fn copy_folder(from: &Path, to: &Path) {
     }
 }
 
+/// OUT holds the three texts of an example, and nothing else.
+#[track_caller]
+pub fn check_recorded(name: &str, out: &Path) {
+    assert_eq!(names_in(out), names(TEXTS), "{}", out.display());
+    for text in TEXTS {
+        let (written, own) = (read(out.join(text)), read(example(name).join(text)));
+        assert!(written == own, "{text} of {name} in {}", out.display());
+    }
+}
+
 /// The names in a folder; none where it is not there.
 pub fn names_in(folder: &Path) -> BTreeSet<OsString> {
     let Ok(entries) = fs::read_dir(folder) else {

@@ -1,7 +1,7 @@
 //! `audit-all` over whole spools: every example, a second run, JSON and lists, many batches.
 
 use crate::harness::{tests, Done};
-use crate::json::{objects, text, Object, Value};
+use crate::json::{objects, only_object, text, Object, Value};
 use crate::results::{check_all_kept, check_stays, kept, row, states};
 use crate::room::{audited_examples, copy_folder, example, expected, names_in, read, Room};
 use crate::run::{audit, audit_all, needs, program, Run, PROGRAM};
@@ -137,7 +137,7 @@ fn json_of_every_batch(room: &Room) -> Done {
         assert_eq!(objects.len(), audited_examples().len());
         for (name, object) in objects {
             let alone = program("audit").arg("--json").arg(spool.join(&name)).end();
-            let mut alone = crate::json::only_object(&alone.stdout);
+            let mut alone = only_object(&alone.stdout);
             alone.insert("batch".to_string(), text(&name));
             assert_eq!(object, alone, "as of audit --json");
         }

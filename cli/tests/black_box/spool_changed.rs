@@ -3,8 +3,9 @@
 use crate::harness::{tests, Done};
 use crate::results::{check_all_kept, check_kept, kept, row, states};
 use crate::room::{copy_folder, example, names, names_in, read, tree, Room, TEXTS};
-use crate::run::{audit_all, Ended};
+use crate::run::{audit, audit_all, Ended};
 use std::fs;
+use std::os::unix::fs::symlink;
 use std::path::{Path, PathBuf};
 
 tests![
@@ -47,37 +48,33 @@ fn batches_that_fail_and_are_repaired(room: &Room) -> Done {
     for _ in 0..2 {
         let ended = audit_all(&spool, &results);
         counted(ended.is(2), "1 accepted, 0 refused, 0 changed, 3 failed");
-        for (batch, words) in [
-            ("batch-1", "trace.txt"),
-            ("batch-2", "report.txt"),
-            ("file", ""),
-        ] {
-            let said = ended.said();
-            let line = said
-                .iter()
-                .find(|l| l.starts_with(&format!("{batch}: could not be run: ")));
-            assert!(
-                line.is_some_and(|line| line.contains(words)),
-                "{batch}; {ended}"
-            );
-            assert_eq!(row(&results, batch).state, "failed");
-        }
-        assert_eq!(
-            names_in(&results.join("batches")),
-            names(["batch-3"]),
-            "none of them is kept"
-        );
+        check_failed(&results, &ended, "batch-1", "trace.txt");
+        check_failed(&results, &ended, "batch-2", "report.txt");
+        check_failed(&results, &ended, "file", "");
+        let kept = names_in(&results.join("batches"));
+        assert_eq!(kept, names(["batch-3"]), "none of them is kept");
     }
     fs::remove_file(spool.join("file")).unwrap();
     fs::remove_dir(spool.join("batch-2/report.txt")).unwrap();
     copy_folder(&example("case-c"), &spool.join("batch-1"));
     copy_folder(&example("case-c"), &spool.join("batch-2"));
-    counted(
-        audit_all(&spool, &results).is(0),
-        "3 accepted, 0 refused, 0 changed, 0 failed",
-    );
+    let ended = audit_all(&spool, &results);
+    counted(ended.is(0), "3 accepted, 0 refused, 0 changed, 0 failed");
     check_all_kept(&spool, &results);
     Ok(())
+}
+
+/// A batch failed, which is in the table, and why was said in these words.
+#[track_caller]
+fn check_failed(results: &Path, ended: &Ended, batch: &str, words: &str) {
+    assert_eq!(row(results, batch).state, "failed");
+    let said = ended.said();
+    let front = format!("{batch}: could not be run: ");
+    let why = said.iter().find_map(|line| line.strip_prefix(&front));
+    assert!(
+        why.is_some_and(|why| why.contains(words)),
+        "{batch}; {ended}"
+    );
 }
 
 /// Each missing text, no text at all, and a schedule without a trace, beside a batch that is refused.
@@ -90,7 +87,7 @@ fn batches_with_all_that_can_be_wrong(room: &Room) -> Done {
     room.folder("spool/nothing");
     room.batch("spool/schedule", "refused-13-schedule-unreadable");
     room.batch("spool/refused", "case-b");
-    std::os::unix::fs::symlink("nowhere", spool.join("dangling")).unwrap();
+    symlink("nowhere", spool.join("dangling")).unwrap();
     let ended = audit_all(&spool, &results);
     counted(ended.is(2), "0 accepted, 1 refused, 0 changed, 6 failed");
     for text in TEXTS {
@@ -165,7 +162,7 @@ fn a_batch_that_changes_in_each_text(room: &Room) -> Done {
         audit_all(&spool, &results).is(0);
     }
     fs::write(batch.join("programs.txt"), "program=0\ndo=0,0,0,0\n").unwrap();
-    crate::run::audit(&batch).is(0);
+    audit(&batch).is(0);
     audit_all(&spool, &results).is(2);
     assert_eq!(row(&results, "batch").state, "changed");
     Ok(())

@@ -1,8 +1,8 @@
 //! Names of every sort in a spool: each batch is kept under its own, and table, list and JSON say which it is.
 
-use crate::harness::{tests, Done};
+use crate::harness::{tests, Done, Skipped};
 use crate::json::{objects, text, Value};
-use crate::results::{batches, check_all_kept, rows, shown};
+use crate::results::{batches, check_all_kept, rows, shown, HEADING};
 use crate::room::{copy_folder, example, names_in, Room};
 use crate::run::{audit_all, needs, program, Run};
 use std::collections::BTreeSet;
@@ -190,7 +190,7 @@ fn names_in_json(room: &Room) -> Done {
 }
 
 /// What a script of Python prints, which is given a file.
-fn python(script: &str, file: &Path) -> Result<String, crate::harness::Skipped> {
+fn python(script: &str, file: &Path) -> Result<String, Skipped> {
     needs("python3")?;
     let ended = Command::new("python3")
         .args(["-c", script])
@@ -211,7 +211,7 @@ fn the_table_as_python_reads_it(room: &Room) -> Done {
     let mut records = read
         .split_terminator('\0')
         .map(|row| row.split('\t').collect::<Vec<_>>());
-    assert_eq!(records.next().unwrap(), crate::results::HEADING);
+    assert_eq!(records.next().unwrap(), HEADING);
     let own = rows(&results);
     let firsts: Vec<[&str; 3]> = records.map(|r| [r[0], r[1], r[7]]).collect();
     let wanted: Vec<[&str; 3]> = own

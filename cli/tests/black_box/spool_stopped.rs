@@ -2,7 +2,7 @@
 
 use crate::harness::{tests, Done};
 use crate::results::{check_all_kept, check_goes_on, states};
-use crate::room::{names_in, Room};
+use crate::room::{names_in, tree, Room};
 use crate::run::{audit_all, collect, program, Ended};
 use crate::system::{heeds_interrupts, kill, lock, SIGINT, SIGTERM};
 use std::fs::File;
@@ -147,7 +147,7 @@ fn a_lock_that_is_held(room: &Room) -> Done {
         .open(results.join(".teaselshears"))
         .unwrap();
     lock(&file);
-    let before = crate::room::tree(&results);
+    let before = tree(&results);
     let begun = Instant::now();
     audit_all(&spool, &results).could_not("another run");
     let waited = begun.elapsed();
@@ -155,7 +155,7 @@ fn a_lock_that_is_held(room: &Room) -> Done {
         waited >= Duration::from_millis(2800),
         "it waits three seconds: {waited:?}"
     );
-    assert_eq!(crate::room::tree(&results), before, "nothing is touched");
+    assert_eq!(tree(&results), before, "nothing is touched");
     drop(file);
     audit_all(&spool, &results).is(0);
     check_all_kept(&spool, &results);

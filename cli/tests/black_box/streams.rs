@@ -1,8 +1,9 @@
 //! Standard output that takes nothing is status 2; standard error is spoken to and not relied on.
 
 use crate::harness::{tests, Done};
-use crate::room::{example, expected, tree, Room};
-use crate::run::{collect, program, shell, Run, PROGRAM};
+use crate::results::check_all_kept;
+use crate::room::{check_recorded, example, expected, tree, Room};
+use crate::run::{audit, collect, program, record, shell, Run, PROGRAM};
 use crate::system::unread_pipe;
 use std::fs::File;
 use std::process::{Command, Stdio};
@@ -115,7 +116,7 @@ fn standard_error_is_closed(room: &Room) -> Done {
         .arg(room.path("out"))
         .end();
     ended.is(0).printed("verdict=0\nline=0\n");
-    crate::examples::check_recorded("case-c", &room.path("out"));
+    check_recorded("case-c", &room.path("out"));
     Ok(())
 }
 
@@ -150,7 +151,7 @@ fn all_streams_are_closed(room: &Room) -> Done {
             .arg(&results)
             .end();
         ended.printed(status);
-        crate::results::check_all_kept(&spool, &results);
+        check_all_kept(&spool, &results);
     }
     let ended = shell(script)
         .arg(PROGRAM)
@@ -181,12 +182,12 @@ fn record_without_standard_output(room: &Room) -> Done {
             "nothing but OUT is left"
         );
         if out.exists() {
-            crate::examples::check_recorded("case-c", &out);
+            check_recorded("case-c", &out);
         }
-        crate::run::record(example("case-c"), &out)
+        record(example("case-c"), &out)
             .is(0)
             .printed("verdict=0\nline=0\n");
-        assert_eq!(expected("case-c"), crate::run::audit(&out).stdout);
+        assert_eq!(expected("case-c"), audit(&out).stdout);
     }
     Ok(())
 }

@@ -2,8 +2,8 @@
 
 use crate::harness::{tests, Done};
 use crate::json::{only_object, text, Value};
-use crate::room::{example, expected, Room, TEXTS};
-use crate::run::{audit, audit_all, is_there, program, record, Ended, Run};
+use crate::room::{check_recorded, example, expected, Room, TEXTS};
+use crate::run::{audit, audit_all, needs, program, record, Ended, Run};
 use std::fs::{self, File};
 use std::os::unix::fs::symlink;
 use std::path::Path;
@@ -189,7 +189,7 @@ fn links_are_followed(room: &Room) -> Done {
         written.file_type().is_file(),
         "the text is written, and not the link"
     );
-    crate::examples::check_recorded("case-c", &room.path("out"));
+    check_recorded("case-c", &room.path("out"));
     Ok(())
 }
 
@@ -308,7 +308,7 @@ fn the_longest_text_that_is_good(room: &Room) -> Done {
     assert_eq!(schedule.len(), 65535);
     fs::write(batch.join("schedule.txt"), &schedule).unwrap();
     record(&batch, room.path("out")).is(0);
-    crate::examples::check_recorded("loop", &room.path("out"));
+    check_recorded("loop", &room.path("out"));
     fs::write(batch.join("schedule.txt"), schedule + "\n").unwrap();
     record(&batch, room.path("never"))
         .is(1)
@@ -341,9 +341,7 @@ fn bytes_that_are_not_printable(room: &Room) -> Done {
 }
 
 fn every_byte_as_sed_shows_it(room: &Room) -> Done {
-    if !is_there("sed") {
-        return crate::harness::skip("sed is not installed");
-    }
+    needs("sed")?;
     let bytes: Vec<u8> = (0..=255).filter(|byte| *byte != b'\n').collect();
     for part in bytes.chunks(90) {
         let file = room.file("line", [part, b"\n"].concat());

@@ -67,11 +67,8 @@ fn begun(command: &mut Command) -> Result<c_int, Skipped> {
         return skip("ptrace is not permitted");
     };
     let pid = child.id() as c_int;
-    let first = wait();
-    assert!(
-        first.is_some_and(|(who, _)| who == pid),
-        "it stops at its start"
-    );
+    // It stops at its start. Others may end that a test which failed did not wait for.
+    while wait().expect("it stops at its start").0 != pid {}
     order(SET_OPTIONS, pid, OPTIONS);
     order(GO_TO_CALL, pid, 0);
     Ok(pid)

@@ -1,7 +1,7 @@
 //! Names that are there and cannot be read as a text: the batch is not run, the text is named, and nothing hangs.
 
 use crate::harness::{skip, tests, Done, Skipped};
-use crate::room::{expected, Room, TEXTS};
+use crate::room::{expected, names, names_in, Room, TEXTS};
 use crate::run::{audit, audit_all, program, Run};
 use crate::system::{is_root, make_fifo};
 use crate::texts::{with_text, READ};
@@ -95,10 +95,7 @@ fn texts_that_cannot_be_read_in_a_spool(room: &Room) -> Done {
             "{line}"
         );
     }
-    assert_eq!(
-        crate::room::names_in(&room.path("results/batches")),
-        crate::room::names(["good"])
-    );
+    assert_eq!(names_in(&room.path("results/batches")), names(["good"]));
     Ok(())
 }
 
@@ -170,7 +167,7 @@ fn places_without_permission(room: &Room) -> Done {
         .could_not("");
     let ended = as_another(program("audit-all").arg(&spool).arg(place.join("results")))?.end();
     ended.could_not("");
-    assert!(crate::room::names_in(&place).is_empty(), "nothing is made");
+    assert!(names_in(&place).is_empty(), "nothing is made");
     set_mode(&place, 0o755);
     Ok(())
 }
