@@ -90,14 +90,12 @@ fn check_whole_or_none(disk: &Disk) -> bool {
 
 fn record_on_disks_of_every_small_size(room: &Room) -> Done {
     let disk = Disk::mounted(room, "size=4k")?;
-    let mut failed = 0;
     for pages in 1..=16 {
         disk.set(&format!("size={}k", 4 * pages));
         if check_whole_or_none(&disk) {
-            assert!(failed > 0, "some are too small");
+            assert!(pages >= 3, "three texts take three");
             return Ok(());
         }
-        failed += 1;
     }
     panic!("64 KB are not enough for three small texts");
 }
