@@ -64,9 +64,8 @@ impl Given {
 }
 
 /// Reads the words of a command that has these options.
-pub fn read(words: impl Iterator<Item = OsString>, flags: &[Flag]) -> Result<Given, NotRun> {
+pub fn read(mut words: impl Iterator<Item = OsString>, flags: &[Flag]) -> Result<Given, NotRun> {
     let mut given = Given::default();
-    let mut words = words.peekable();
     while let Some(word) = words.next() {
         if word == "--" {
             given.arguments.extend(words);
@@ -86,33 +85,30 @@ pub fn read(words: impl Iterator<Item = OsString>, flags: &[Flag]) -> Result<Giv
     Ok(given)
 }
 
-/// The option that a word names, with the value in the same word, as in `--jobs=3` or `-j3`.
+/// The option that a word names, with the value that stands in the same word.
 fn find<'a>(word: &OsStr, flags: &'a [Flag]) -> Result<(&'a Flag, Option<OsString>), NotRun> {
-    let bytes = word.as_bytes();
-    for flag in flags {
-        if let Some(rest) = bytes.strip_prefix(flag.long.as_bytes()) {
-            match rest.split_first() {
-                None => return Ok((flag, None)),
-                Some((b'=', value)) if flag.takes_value => {
-                    return Ok((flag, Some(OsString::from_vec(value.to_vec()))));
-                }
-                _ => {}
-            }
-        }
-        if bytes.get(1).copied() == flag.short && flag.short.is_some() {
-            match &bytes[2..] {
-                [] => return Ok((flag, None)),
-                value if flag.takes_value => {
-                    return Ok((flag, Some(OsString::from_vec(value.to_vec()))));
-                }
-                _ => {}
-            }
-        }
-    }
+    let found = flags
+        .iter()
+        .find_map(|flag| Some((flag, value_in(word.as_bytes(), flag)?)));
     let word = shown::name(word);
-    Err(NotRun(format!(
-        "unknown option '{word}' ('--help' lists the options)"
-    )))
+    found.ok_or_else(|| {
+        NotRun(format!(
+            "unknown option '{word}' ('--help' lists the options)"
+        ))
+    })
+}
+
+/// What stands behind an option in its word, as in `--jobs=3` or `-j3`, if anything; none where the word is another.
+fn value_in(word: &[u8], flag: &Flag) -> Option<Option<OsString>> {
+    let long = word.strip_prefix(flag.long.as_bytes());
+    let short = flag.short.map(|letter| [b'-', letter]);
+    let short = short.and_then(|short| word.strip_prefix(&short));
+    let value = match (long, short) {
+        (Some([]), _) | (_, Some([])) => return Some(None),
+        (Some([b'=', value @ ..]), _) | (None, Some(value)) if flag.takes_value => value,
+        _ => return None,
+    };
+    Some(Some(OsString::from_vec(value.to_vec())))
 }
 
 fn needs_value(flag: &Flag) -> NotRun {

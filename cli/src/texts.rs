@@ -75,15 +75,7 @@ impl Texts {
         }
         if found.read.is_empty() || (missing == Missing::NotRun && !found.missing.is_empty()) {
             let files: Vec<&str> = found.missing.iter().map(|text| text.file()).collect();
-            return Err(NotRun(format!(
-                "{} not there: {}",
-                if files.len() == 1 {
-                    "a text is"
-                } else {
-                    "texts are"
-                },
-                files.join(", ")
-            )));
+            return Err(NotRun(format!("not there: {}", files.join(", "))));
         }
         Ok(found)
     }

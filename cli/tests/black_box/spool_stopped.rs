@@ -6,7 +6,7 @@ use crate::room::{names_in, tree, Room};
 use crate::run::{audit_all, collect, program, Ended};
 use crate::system::{heeds_interrupts, kill, lock, SIGINT, SIGTERM};
 use std::fs::File;
-use std::path::Path;
+use std::path::{Path, PathBuf};
 use std::process::{Child, Stdio};
 use std::thread;
 use std::time::{Duration, Instant};
@@ -138,15 +138,19 @@ fn two_first_runs_at_once(room: &Room) -> Done {
     Ok(())
 }
 
-fn a_lock_that_is_held(room: &Room) -> Done {
+/// A spool with a batch that is not audited yet, its results, and the file by which they are locked.
+fn locked_results(room: &Room) -> (PathBuf, PathBuf, File) {
     let (spool, results) = (room.spool("spool", "case-c", 2), room.path("results"));
     audit_all(&spool, &results).is(0);
     room.batch("spool/later", "case-c");
-    let file = File::options()
-        .append(true)
-        .open(results.join(".teaselshears"))
-        .unwrap();
+    let marker = results.join(".teaselshears");
+    let file = File::options().append(true).open(marker).unwrap();
     lock(&file);
+    (spool, results, file)
+}
+
+fn a_lock_that_is_held(room: &Room) -> Done {
+    let (spool, results, file) = locked_results(room);
     let before = tree(&results);
     let begun = Instant::now();
     audit_all(&spool, &results).could_not("another run");
@@ -163,14 +167,7 @@ fn a_lock_that_is_held(room: &Room) -> Done {
 }
 
 fn a_lock_that_is_let_go(room: &Room) -> Done {
-    let (spool, results) = (room.spool("spool", "case-c", 2), room.path("results"));
-    audit_all(&spool, &results).is(0);
-    room.batch("spool/later", "case-c");
-    let file = File::options()
-        .append(true)
-        .open(results.join(".teaselshears"))
-        .unwrap();
-    lock(&file);
+    let (spool, results, file) = locked_results(room);
     let child = begin(&spool, &results, "2");
     thread::sleep(Duration::from_millis(700));
     assert_eq!(names_in(&results.join("batches")).len(), 2, "it waits");
