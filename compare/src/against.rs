@@ -1,15 +1,18 @@
 //! What is asked of every case of the proved functions: that they agree with this implementation, to the last
 //! byte of every buffer.
 
+use crate::audit::Audited;
 use crate::cases::Case;
 use crate::checks::{audit_of, not_accepted, Check};
 use crate::host::record;
 use crate::proved;
 use crate::texts::{BatchTexts, TEXT_LIMIT};
 
-pub const AGAINST_PROVED: [Check; 4] = [
+pub const AGAINST_PROVED: [Check; 6] = [
     audits_agree,
     records_agree,
+    printed_audits_agree,
+    printed_records_agree,
     what_is_too_short_is_left_alone,
     what_the_proved_host_writes_is_accepted,
 ];
@@ -18,6 +21,41 @@ fn audits_agree(case: &Case) -> Option<String> {
     let here = audit_of(&case.batch);
     let proved = proved::audit(&case.batch);
     (here != proved).then(|| format!("here {here:?}, proved {proved:?}"))
+}
+
+/// What the program `audit` prints.
+fn printed_audits_agree(case: &Case) -> Option<String> {
+    let Audited {
+        verdict,
+        line,
+        requests,
+        operations,
+    } = audit_of(&case.batch);
+    let text =
+        format!("verdict={verdict}\nline={line}\nrequests={requests}\noperations={operations}\n");
+    prints_differ(text.as_bytes(), |out| proved::audit_text(&case.batch, out))
+}
+
+/// What the program `record` prints.
+fn printed_records_agree(case: &Case) -> Option<String> {
+    let programs = &case.batch.programs;
+    let here = record(programs, &case.schedule, TEXT_LIMIT, TEXT_LIMIT);
+    let front = format!("verdict={}\nline={}\n", here.verdict, here.line);
+    let text = [front.as_bytes(), &here.trace, &here.report].concat();
+    prints_differ(&text, |out| {
+        proved::record_text(programs, &case.schedule, out)
+    })
+}
+
+/// A text that is printed whole, or not at all where the buffer is too short.
+fn prints_differ(text: &[u8], print: impl Fn(&mut [u8]) -> usize) -> Option<String> {
+    rooms(text.len()).into_iter().find_map(|room| {
+        let mut out = PATTERN[..room].to_vec();
+        let written = print(&mut out);
+        let expected: &[u8] = if room < text.len() { b"" } else { text };
+        let agrees = written == expected.len() && holds(&out, expected);
+        (!agrees).then(|| format!("{written} bytes printed, with {room} bytes of room"))
+    })
 }
 
 /// The two hosts, with buffers of every length about the needed one, of the trace and of the report.
@@ -69,8 +107,8 @@ fn records_differ(case: &Case, (room_trace, room_report): (usize, usize)) -> Opt
     ))
 }
 
-/// The longest buffer that is lent; no text needs as much.
-const LONGEST: usize = TEXT_LIMIT + 5_000;
+/// The longest buffer that is lent; nothing that is written needs as much.
+const LONGEST: usize = 2 * TEXT_LIMIT + 5_000;
 
 /// What a lent buffer holds before: bytes that no text has, each unlike its neighbours.
 static PATTERN: [u8; LONGEST] = {

@@ -3,32 +3,10 @@
 use crate::audit::Audited;
 use crate::texts::BatchTexts;
 
-// A slice passes as its address and its length.
-extern "C" {
-    fn teaselshears_audit(
-        programs: *const u8,
-        programs_length: usize,
-        trace: *const u8,
-        trace_length: usize,
-        report: *const u8,
-        report_length: usize,
-        out: *mut u64,
-        out_length: usize,
-    ) -> usize;
+#[path = "../../crates/export/teaselshears.rs"]
+mod teaselshears;
 
-    fn teaselshears_record(
-        programs: *const u8,
-        programs_length: usize,
-        schedule: *const u8,
-        schedule_length: usize,
-        trace: *mut u8,
-        trace_length: usize,
-        report: *mut u8,
-        report_length: usize,
-        out: *mut u64,
-        out_length: usize,
-    ) -> usize;
-}
+pub use teaselshears::{record as record_into, record_text};
 
 /// How many numbers a result has.
 pub const NUMBERS: usize = 4;
@@ -47,20 +25,12 @@ pub fn audit(batch: &BatchTexts) -> Audited {
 
 /// The audit with its numbers to the front of `out`: how many were written.
 pub fn audit_into(batch: &BatchTexts, out: &mut [u64]) -> usize {
-    // SAFETY: each address comes with the length of the slice that it is the start of, and the slices live
-    // until the call returns.
-    unsafe {
-        teaselshears_audit(
-            batch.programs.as_ptr(),
-            batch.programs.len(),
-            batch.trace.as_ptr(),
-            batch.trace.len(),
-            batch.report.as_ptr(),
-            batch.report.len(),
-            out.as_mut_ptr(),
-            out.len(),
-        )
-    }
+    teaselshears::audit(&batch.programs, &batch.trace, &batch.report, out)
+}
+
+/// What the program `audit` prints, to the front of `out`: how many bytes were written.
+pub fn audit_text(batch: &BatchTexts, out: &mut [u8]) -> usize {
+    teaselshears::audit_text(&batch.programs, &batch.trace, &batch.report, out)
 }
 
 /// What the host answers; what it wrote stands in the two buffers.
@@ -82,30 +52,5 @@ pub fn record(programs: &[u8], schedule: &[u8], trace: &mut [u8], report: &mut [
         line: line as usize,
         trace_length: trace_length as usize,
         report_length: report_length as usize,
-    }
-}
-
-/// The run of a schedule with its numbers to the front of `out`: how many were written.
-pub fn record_into(
-    programs: &[u8],
-    schedule: &[u8],
-    trace: &mut [u8],
-    report: &mut [u8],
-    out: &mut [u64],
-) -> usize {
-    // SAFETY: as above; the two buffers and `out` are lent to the call alone.
-    unsafe {
-        teaselshears_record(
-            programs.as_ptr(),
-            programs.len(),
-            schedule.as_ptr(),
-            schedule.len(),
-            trace.as_mut_ptr(),
-            trace.len(),
-            report.as_mut_ptr(),
-            report.len(),
-            out.as_mut_ptr(),
-            out.len(),
-        )
     }
 }

@@ -1,14 +1,50 @@
-/* The proved audit and reference host for C. Build their library with `rt staticlib export`, and link
-   target/staticlib/libexport.a. */
+/* The proved audit and reference host for C and C++. `tools/library` builds them: link target/staticlib/libexport.a, or
+   what `tools/install` made of it, libteaselshears.a.
+
+   What holds of every function here:
+   - It answers on every input, and its answer is proved equal to the definitions that docs/PROOF.md names.
+   - A text is given by its address and its length; a text of length 0 may have any address but a null pointer. A buffer
+     that is lent must overlap neither a text nor another buffer.
+   - Threads: any number at once. There is no state between two calls.
+   - Allocation: none, and no call of the system.
+   - Stack: below 512 KiB a call. Give a thread that calls one of them 1 MiB. */
 #ifndef TEASELSHEARS_H
 #define TEASELSHEARS_H
 
 #include <stddef.h>
 #include <stdint.h>
 
-/* The verdict on three texts, each given by its address and its length. Verdict, line, requests and operations are
-   written to out[0] to out[3], and 4 is returned; with out_length below 4 nothing is written, and 0 is returned.
-   out must not overlap a text. */
+#ifdef __cplusplus
+extern "C" {
+#endif
+
+/* The verdicts. docs/FORMATS.md has them with their rules and examples. */
+enum teaselshears_verdict {
+    TEASELSHEARS_ACCEPTED = 0,             /* of the host: recorded */
+    TEASELSHEARS_PROGRAMS_UNREADABLE = 1,
+    TEASELSHEARS_RULE_BROKEN = 2,
+    TEASELSHEARS_TRACE_UNREADABLE = 3,
+    TEASELSHEARS_TRACE_FAULT = 4,          /* rid used twice, unknown program, response with no open request, never answered */
+    TEASELSHEARS_REPORT_UNREADABLE = 5,
+    TEASELSHEARS_OF_LINES = 6,             /* not one per request in arrival order */
+    TEASELSHEARS_LOG_LINE = 7,             /* rid unknown, num 0 or above count, or claimed before */
+    TEASELSHEARS_OPERATION_UNLOGGED = 8,
+    TEASELSHEARS_ORDER_RETURNS = 9,
+    TEASELSHEARS_OPERATION_DIFFERS = 10,
+    TEASELSHEARS_RESPONSE_DIFFERS = 11,
+    TEASELSHEARS_PATH_DIFFERS = 12,
+    TEASELSHEARS_SCHEDULE_UNREADABLE = 13,
+    TEASELSHEARS_SCHEDULE_FAULT = 14,      /* rid arrives twice, unknown program, turn of a rid not arrived, 1,025th operation */
+    TEASELSHEARS_REQUEST_OPEN = 15,
+    TEASELSHEARS_BUFFER_SHORT = 16
+};
+
+/* The longest text. A buffer of this length is long enough for every text that the host writes. */
+enum { TEASELSHEARS_TEXT = 65535 };
+
+/* The verdict on three texts. Verdict, line, requests and operations are written to out[0] to out[3], and 4 is returned;
+   with out_length below 4 nothing is written, and 0 is returned. So out[0] means nothing unless 4 was returned: an out
+   that was cleared to 0 and is too short looks accepted to whoever does not look at the result. */
 size_t teaselshears_audit(const uint8_t *programs, size_t programs_length,
                           const uint8_t *trace, size_t trace_length,
                           const uint8_t *report, size_t report_length,
@@ -16,12 +52,27 @@ size_t teaselshears_audit(const uint8_t *programs, size_t programs_length,
 
 /* The run of a schedule. Its trace and its report are written to the fronts of the two buffers, or nothing on a refusal;
    verdict, line and the lengths of the two texts are written to out[0] to out[3], and 4 is returned. With out_length
-   below 4 nothing is written anywhere, and 0 is returned. A buffer of 65535 bytes is long enough for every text. No
-   buffer may overlap another or a text. */
+   below 4 nothing is written anywhere, and 0 is returned: out[0] means nothing then. */
 size_t teaselshears_record(const uint8_t *programs, size_t programs_length,
                            const uint8_t *schedule, size_t schedule_length,
                            uint8_t *trace, size_t trace_length,
                            uint8_t *report, size_t report_length,
                            uint64_t *out, size_t out_length);
+
+/* What the program `audit` prints of three texts, `verdict=0`, `line=0` and so on, written to the front of out. The result
+   is its length, or 0 where out is too short, and then nothing is written; nothing is ever printed that has no byte. */
+size_t teaselshears_audit_text(const uint8_t *programs, size_t programs_length,
+                               const uint8_t *trace, size_t trace_length,
+                               const uint8_t *report, size_t report_length,
+                               uint8_t *out, size_t out_length);
+
+/* What the program `record` prints of a schedule: verdict and line, then the trace and the report. The result is as above. */
+size_t teaselshears_record_text(const uint8_t *programs, size_t programs_length,
+                                const uint8_t *schedule, size_t schedule_length,
+                                uint8_t *out, size_t out_length);
+
+#ifdef __cplusplus
+}
+#endif
 
 #endif

@@ -1,15 +1,19 @@
 // The audit and the reference host for programs in Rust and C. A slice passes as its address and its length, a number as itself.
 mod numbers;
 
+use lines::written;
 use numbers::fill_four;
 ghost use mathlib.Core.Path.{_≡_};
 ghost use mathlib.Core.Logic.{_↔_};
 ghost use lib.ListN.{getD, length};
 ghost use Rattle.verifier.specs.Accepts.{Accepts};
 ghost use Rattle.verifier.specs.Faults.{auditOf};
+ghost use Rattle.verifier.specs.Printed.{auditedText};
 ghost use Rattle.host.specs.Accepted.{Accepted};
+ghost use Rattle.host.specs.Printed.{recordedText};
 ghost use Rattle.host.specs.Recorded.{recordOf};
 ghost use Rattle.export.specs.Numbers.{ifRoom, handed, auditNumbers, recordFrom, RecordHanded};
+ghost use Rattle.export.specs.Printed.{PrintedIs};
 
 // The verdict on three texts: verdict, line, requests and operations to the front of out. The result is how many numbers were
 // written: four, or none where out is too short for them.
@@ -62,4 +66,35 @@ pub extern "C" fn teaselshears_record(
         r.report_len as u64,
     );
     4
+}
+
+// What the program `audit` prints of three texts, to the front of out. The result is how many bytes were written: all, or none where out
+// is too short for them.
+#[no_mangle]
+pub extern "C" fn teaselshears_audit_text(
+    programs: &[u8],
+    trace: &[u8],
+    report: &[u8],
+    out: &mut [u8],
+) -> usize
+    ensures { λ r. ⌜ PrintedIs
+        (auditedText (auditOf (now (programs .entry)) (now (trace .entry)) (now (report .entry))))
+        (now (out .entry)) (now (out .exit)) r ⌝ }
+{
+    written(verifier::audit_text(programs, trace, report, out))
+}
+
+// What the program `record` prints of a schedule, to the front of out. The result is how many bytes were written: all, or none where out is
+// too short for them.
+#[no_mangle]
+pub extern "C" fn teaselshears_record_text(
+    programs: &[u8],
+    schedule: &[u8],
+    out: &mut [u8],
+) -> usize
+    ensures { λ r. ⌜ PrintedIs
+        (recordedText (recordOf (now (programs .entry)) (now (schedule .entry)) 65535 65535))
+        (now (out .entry)) (now (out .exit)) r ⌝ }
+{
+    written(host::record_text(programs, schedule, out))
 }

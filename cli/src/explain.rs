@@ -1,0 +1,64 @@
+//! `teaselshears explain`: a verdict in words.
+
+use crate::arguments::{self, HELP};
+use crate::help;
+use crate::outcome::{NotRun, Status};
+use crate::shown;
+use crate::verdicts::{self, Verdict};
+use std::ffi::OsString;
+use std::os::unix::ffi::OsStrExt;
+
+/// How wide a line of the explanation is.
+const WIDTH: usize = 78;
+
+pub fn run(words: impl Iterator<Item = OsString>) -> Result<Status, NotRun> {
+    let given = arguments::read(words, &[HELP])?;
+    if given.has(&HELP) {
+        return help::print(help::EXPLAIN);
+    }
+    let [word] = given.exactly("one verdict is")?;
+    let number = verdicts::number(word.as_bytes());
+    let found = number.and_then(|number| Some((number, verdicts::verdict(number)?)));
+    let Some((number, verdict)) = found else {
+        let word = shown::name(word);
+        return Err(NotRun(format!(
+            "there is no verdict '{word}': they are 0 to {}",
+            verdicts::LAST
+        )));
+    };
+    help::print(&explained(number, verdict))
+}
+
+fn explained(number: u64, verdict: &Verdict) -> String {
+    let line = match verdict.text {
+        Some(text) => format!("Its line is one of {}.", text.file()),
+        None => "It names no line.".to_owned(),
+    };
+    let parts = [
+        format!("Verdict {number}: {}.", verdict.rule),
+        line,
+        format!("Example: {}.", verdict.example),
+        format!("What to do: {}", verdict.next),
+    ];
+    parts.map(|part| wrapped(&part)).concat()
+}
+
+/// A paragraph in lines of bounded width.
+fn wrapped(text: &str) -> String {
+    let mut lines = String::new();
+    let mut width = 0;
+    for word in text.split(' ') {
+        let needed = word.chars().count();
+        if width > 0 && width + 1 + needed > WIDTH {
+            lines.push('\n');
+            width = 0;
+        } else if width > 0 {
+            lines.push(' ');
+            width += 1;
+        }
+        lines.push_str(word);
+        width += needed;
+    }
+    lines.push('\n');
+    lines
+}

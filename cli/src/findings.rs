@@ -1,0 +1,206 @@
+//! What is known of a batch: its verdict with the words for it, or why it has none.
+
+use crate::causes;
+use crate::json::{self, Object};
+use crate::outcome::{count, NotRun, Status};
+use crate::proved::{self, Proved};
+use crate::shown;
+use crate::texts::{Text, Texts};
+use crate::verdicts::{self, Audited};
+use std::ffi::OsString;
+
+/// What became of a batch. Only the first two are verdicts.
+#[derive(Clone, Copy, Debug, PartialEq, Eq)]
+pub enum State {
+    Accepted,
+    Refused,
+    Changed,
+    Failed,
+    Waiting,
+}
+
+impl State {
+    pub const ALL: [State; 5] = [
+        State::Accepted,
+        State::Refused,
+        State::Changed,
+        State::Failed,
+        State::Waiting,
+    ];
+
+    pub fn word(self) -> &'static str {
+        match self {
+            State::Accepted => "accepted",
+            State::Refused => "refused",
+            State::Changed => "changed",
+            State::Failed => "failed",
+            State::Waiting => "waiting",
+        }
+    }
+
+    pub fn of(audited: &Audited) -> State {
+        match audited.verdict {
+            0 => State::Accepted,
+            _ => State::Refused,
+        }
+    }
+
+    pub fn status(self) -> Status {
+        match self {
+            State::Accepted => Status::Success,
+            State::Refused => Status::Refused,
+            State::Changed | State::Failed | State::Waiting => Status::NotRun,
+        }
+    }
+}
+
+/// The program that found it.
+#[derive(Clone, Debug, PartialEq, Eq)]
+pub struct Program {
+    pub version: String,
+    pub library: String,
+    pub kit: String,
+}
+
+impl Program {
+    pub fn this() -> Program {
+        Program {
+            version: proved::VERSION.to_owned(),
+            library: proved::LIBRARY.to_owned(),
+            kit: proved::KIT.to_owned(),
+        }
+    }
+}
+
+#[derive(Clone, Debug)]
+pub struct Finding {
+    pub batch: OsString,
+    pub state: State,
+    pub audited: Option<Audited>,
+    /// The text that a refusal is about, and the line that it names, where there is such a line.
+    pub text: Option<Text>,
+    pub bytes: Option<Vec<u8>>,
+    pub sentence: String,
+    pub program: Program,
+    /// When it was found, where that is kept.
+    pub time: String,
+}
+
+impl Finding {
+    /// Audits a batch, and gives what was printed with what it means.
+    pub fn audit(
+        batch: OsString,
+        texts: &Texts,
+        proved: &mut Proved,
+    ) -> Result<(Finding, Vec<u8>), NotRun> {
+        let printed = proved.audit(texts)?;
+        let audited = Audited::read(printed)
+            .ok_or_else(|| NotRun::new("the library's answer is no verdict"))?;
+        let finding = Finding {
+            sentence: sentence(&audited, texts),
+            ..Finding::read(batch, audited, texts)
+        };
+        Ok((finding, printed.to_vec()))
+    }
+
+    /// A verdict that was found of these texts, without its sentence.
+    pub fn read(batch: OsString, audited: Audited, texts: &Texts) -> Finding {
+        let text = verdicts::text(audited.verdict);
+        let bytes = text.and_then(|text| line_of(texts.bytes(text), audited.line));
+        Finding {
+            batch,
+            state: State::of(&audited),
+            audited: Some(audited),
+            text,
+            bytes: bytes.map(<[u8]>::to_vec),
+            sentence: String::new(),
+            program: Program::this(),
+            time: String::new(),
+        }
+    }
+
+    /// A batch without a verdict.
+    pub fn none(batch: OsString, state: State, sentence: String) -> Finding {
+        Finding {
+            batch,
+            state,
+            audited: None,
+            text: None,
+            bytes: None,
+            sentence,
+            program: Program::this(),
+            time: String::new(),
+        }
+    }
+
+    /// One line of JSON.
+    pub fn json(&self) -> String {
+        let mut object = Object::new();
+        let audited = self.audited.as_ref();
+        let bytes = self.bytes.as_deref();
+        object.add("batch", json::name(&self.batch));
+        object.add("state", json::string(self.state.word()));
+        object.add("verdict", json::number(audited.map(|a| a.verdict)));
+        object.add("line", json::number(audited.map(|a| a.line)));
+        object.add(
+            "text",
+            json::optional(self.text.map(|text| json::string(text.file()))),
+        );
+        object.add("bytes", json::optional(bytes.map(json::bytes)));
+        object.add("requests", json::number(audited.map(|a| a.requests)));
+        object.add("operations", json::number(audited.map(|a| a.operations)));
+        object.add("sentence", json::string(&self.sentence));
+        object.add("version", json::string(&self.program.version));
+        object.add("library", json::string(&self.program.library));
+        object.add("kit", json::string(&self.program.kit));
+        object.line()
+    }
+}
+
+/// An audit's result in one sentence.
+fn sentence(audited: &Audited, texts: &Texts) -> String {
+    if audited.verdict != 0 {
+        return refused(audited.verdict, audited.line, texts);
+    }
+    let requests = count(audited.requests, "request");
+    let operations = count(audited.operations, "operation");
+    format!("accepted: {requests}, {operations}{}", missing(texts))
+}
+
+/// A refusal in one sentence: the verdict, its cause or else its rule, and the line that it names.
+pub fn refused(verdict: u64, line: u64, texts: &Texts) -> String {
+    let cause = causes::cause(verdict, line, texts);
+    let cause = cause.unwrap_or_else(|| verdicts::rule(verdict).to_owned());
+    let place = place(verdict, line, texts);
+    format!(
+        "refused, verdict {verdict} ({cause}){place}{}",
+        missing(texts)
+    )
+}
+
+fn place(verdict: u64, line: u64, texts: &Texts) -> String {
+    let text = verdicts::text(verdict).filter(|_| line > 0);
+    let Some(text) = text else {
+        return String::new();
+    };
+    let file = text.file();
+    match line_of(texts.bytes(text), line) {
+        Some(bytes) => format!(": {file}, line {line}: {}", shown::line(bytes)),
+        None => format!(": {file}, line {line}, which is behind its end"),
+    }
+}
+
+/// What was read as empty, for the end of a sentence.
+pub fn missing(texts: &Texts) -> String {
+    let files: Vec<&str> = texts.missing.iter().map(|text| text.file()).collect();
+    match files.is_empty() {
+        true => String::new(),
+        false => format!("; missing, and read as empty: {}", files.join(", ")),
+    }
+}
+
+/// A line by its number from 1, with its line feed where it has one.
+fn line_of(text: &[u8], line: u64) -> Option<&[u8]> {
+    let before = usize::try_from(line).ok()?.checked_sub(1)?;
+    text.split_inclusive(|byte| *byte == b'\n').nth(before)
+}

@@ -1,0 +1,94 @@
+//! Names and bytes as a person may see them: on one line, and harmless to a terminal.
+
+use std::ffi::OsStr;
+use std::os::unix::ffi::OsStrExt;
+
+/// How many bytes of a line are shown.
+const SHOWN: usize = 100;
+
+/// A name as it is where it is printable UTF-8; a backslash is doubled, and every other byte is written \xNN, so that no two
+/// names look alike.
+pub fn name(name: &OsStr) -> String {
+    let mut shown = String::new();
+    for chunk in name.as_bytes().utf8_chunks() {
+        for letter in chunk.valid().chars() {
+            push_letter(&mut shown, letter);
+        }
+        push_bytes(&mut shown, chunk.invalid());
+    }
+    shown
+}
+
+fn push_letter(shown: &mut String, letter: char) {
+    match letter {
+        '\\' => shown.push_str("\\\\"),
+        _ if is_plain(letter) => shown.push(letter),
+        _ => push_bytes(shown, letter.encode_utf8(&mut [0; 4]).as_bytes()),
+    }
+}
+
+fn push_bytes(shown: &mut String, bytes: &[u8]) {
+    for byte in bytes {
+        shown.push_str(&format!("\\x{byte:02x}"));
+    }
+}
+
+/// Neither a control character nor one that breaks a line or turns the direction of writing.
+fn is_plain(letter: char) -> bool {
+    let turns = matches!(letter, '\u{200e}' | '\u{200f}' | '\u{2028}'..='\u{202e}' | '\u{2066}'..='\u{2069}');
+    !letter.is_control() && !turns
+}
+
+/// The first bytes of a line between quotes, with what is not printable as a backslash and a letter or three octal digits, and
+/// whether there are more.
+pub fn line(bytes: &[u8]) -> String {
+    let body = bytes.strip_suffix(b"\n").unwrap_or(bytes);
+    let front = &body[..body.len().min(SHOWN)];
+    let mut shown: String = front.iter().map(|byte| octal(*byte)).collect();
+    shown = format!("\"{shown}\"");
+    if body.len() > SHOWN {
+        shown.push_str(" and more");
+    }
+    if body.len() == bytes.len() {
+        shown.push_str(", without a line feed");
+    }
+    shown
+}
+
+fn octal(byte: u8) -> String {
+    match byte {
+        b'\\' => "\\\\".to_owned(),
+        b' '..=b'~' => char::from(byte).to_string(),
+        7 => "\\a".to_owned(),
+        8 => "\\b".to_owned(),
+        9 => "\\t".to_owned(),
+        11 => "\\v".to_owned(),
+        12 => "\\f".to_owned(),
+        13 => "\\r".to_owned(),
+        _ => format!("\\{byte:03o}"),
+    }
+}
+
+#[cfg(test)]
+mod tests {
+    use super::*;
+
+    #[test]
+    fn names_are_told_apart() {
+        let shown = |bytes: &[u8]| name(OsStr::from_bytes(bytes));
+        assert_eq!(shown("Käse 日本".as_bytes()), "Käse 日本");
+        assert_eq!(shown(b"a\xff"), "a\\xff");
+        assert_eq!(shown(b"a\\xff"), "a\\\\xff");
+        assert_eq!(shown(b"tab\tfeed\n\x1b"), "tab\\x09feed\\x0a\\x1b");
+        assert_eq!(shown("a\u{202e}b".as_bytes()), "a\\xe2\\x80\\xaeb");
+    }
+
+    #[test]
+    fn lines_are_shown_in_short() {
+        assert_eq!(line(b"of=1\r\n"), "\"of=1\\r\"");
+        assert_eq!(line(b"\0\x7f\\"), "\"\\000\\177\\\\\", without a line feed");
+        let hundred = [b'x'; 100];
+        assert!(line(&[&hundred[..], b"\n"].concat()).ends_with("x\""));
+        assert!(line(&[&hundred[..], b"y\n"].concat()).ends_with("x\" and more"));
+    }
+}

@@ -1,0 +1,121 @@
+//! The library of the proved functions, as programs in C, C++ and Rust use it.
+
+use crate::harness::{skip, tests, Done, Skipped};
+use crate::room::{read, root, Room};
+use crate::run::{needs, Run};
+use std::path::{Path, PathBuf};
+use std::process::Command;
+
+tests![
+    an_example_in_c,
+    an_example_in_cpp,
+    an_example_in_rust,
+    the_header_alone
+];
+
+fn folder() -> PathBuf {
+    root().join("crates/export")
+}
+
+fn built() -> Result<PathBuf, Skipped> {
+    let library = root().join("target/staticlib/libexport.a");
+    if !library.exists() {
+        return skip("target/staticlib/libexport.a is not there");
+    }
+    Ok(library)
+}
+
+/// The example runs, and says that something is accepted.
+#[track_caller]
+pub fn check_example(program: &Path) {
+    let ended = Command::new(program).end();
+    let text = ended.is(0).text();
+    assert!(text.contains("verdict=0\nline=0\n"), "{ended}");
+}
+
+fn an_example_in_c(room: &Room) -> Done {
+    needs("cc")?;
+    let (library, program) = (built()?, room.path("example"));
+    let mut cc = Command::new("cc");
+    cc.args(["-std=c99", "-Wall", "-Wextra", "-Werror", "-pedantic", "-I"])
+        .arg(folder());
+    cc.arg(folder().join("example.c"))
+        .arg(library)
+        .arg("-o")
+        .arg(&program)
+        .end()
+        .is(0);
+    check_example(&program);
+    Ok(())
+}
+
+fn an_example_in_cpp(room: &Room) -> Done {
+    needs("g++")?;
+    let (library, program) = (built()?, room.path("example"));
+    let mut cc = Command::new("g++");
+    cc.args(["-Wall", "-Wextra", "-Werror", "-I"])
+        .arg(folder())
+        .args(["-x", "c++"]);
+    cc.arg(folder().join("example.c"))
+        .args(["-x", "none"])
+        .arg(library);
+    cc.arg("-o").arg(&program).end().is(0);
+    check_example(&program);
+    Ok(())
+}
+
+fn an_example_in_rust(room: &Room) -> Done {
+    needs("rustc")?;
+    let (library, program) = (built()?, room.path("example"));
+    let mut rustc = Command::new("rustc");
+    rustc.args([
+        "--edition",
+        "2021",
+        "-D",
+        "warnings",
+        "-l",
+        "static=export",
+        "-L",
+    ]);
+    rustc
+        .arg(library.parent().unwrap())
+        .arg(folder().join("example.rs"));
+    rustc.arg("-o").arg(&program).end().is(0);
+    check_example(&program);
+    Ok(())
+}
+
+/// The header stands by itself in both languages, and has the numbers of the verdicts.
+fn the_header_alone(room: &Room) -> Done {
+    needs("cc")?;
+    needs("g++")?;
+    let source = "#include \"teaselshears.h\"\n#include \"teaselshears.h\"\n";
+    for (compiler, language) in [("cc", "c"), ("g++", "c++")] {
+        let file = room.file("header.c", source);
+        let mut compiler = Command::new(compiler);
+        compiler.args([
+            "-x",
+            language,
+            "-Wall",
+            "-Wextra",
+            "-Werror",
+            "-fsyntax-only",
+            "-I",
+        ]);
+        compiler.arg(folder()).arg(file).end().is(0);
+    }
+    let header = String::from_utf8(read(folder().join("teaselshears.h"))).unwrap();
+    assert!(header.contains("extern \"C\""));
+    for verdict in 0..=16 {
+        let ends = |line: &str| {
+            line.split_whitespace()
+                .any(|w| w.trim_end_matches(',') == verdict.to_string())
+        };
+        let named = |line: &str| line.contains("TEASELSHEARS_") && ends(line);
+        assert!(
+            header.lines().any(named),
+            "a constant for verdict {verdict}"
+        );
+    }
+    Ok(())
+}
