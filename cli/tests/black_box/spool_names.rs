@@ -4,7 +4,7 @@ use crate::harness::{tests, Done, Skipped};
 use crate::json::{objects, text, Value};
 use crate::results::{batches, check_all_kept, rows, shown, HEADING};
 use crate::room::{copy_folder, example, names_in, Room};
-use crate::run::{audit_all, needs, program, Run};
+use crate::run::{audit_all, needs, program, Ended, Run};
 use std::collections::BTreeSet;
 use std::ffi::{OsStr, OsString};
 use std::os::unix::ffi::{OsStrExt, OsStringExt};
@@ -167,13 +167,16 @@ fn in_json(name: &OsStr) -> Value {
     name.to_str().map_or(bytes, text)
 }
 
-fn names_in_json(room: &Room) -> Done {
+/// The spool of names, and a run over it that prints objects.
+fn names_as_objects(room: &Room) -> (PathBuf, Ended) {
     let (spool, results) = (spool_of_names(room), room.path("results"));
-    let ended = program("audit-all")
-        .arg("--json")
-        .arg(&spool)
-        .arg(&results)
-        .end();
+    let mut program = program("audit-all");
+    let ended = program.arg("--json").arg(&spool).arg(&results).end();
+    (spool, ended)
+}
+
+fn names_in_json(room: &Room) -> Done {
+    let (spool, ended) = names_as_objects(room);
     let objects = objects(&ended.is(1).stdout);
     assert_eq!(objects.len(), 32);
     for name in batches(&spool) {
@@ -223,12 +226,7 @@ fn the_table_as_python_reads_it(room: &Room) -> Done {
 }
 
 fn json_as_python_reads_it(room: &Room) -> Done {
-    let (spool, results) = (spool_of_names(room), room.path("results"));
-    let ended = program("audit-all")
-        .arg("--json")
-        .arg(&spool)
-        .arg(&results)
-        .end();
+    let (spool, ended) = names_as_objects(room);
     let file = room.file("objects", &ended.is(1).stdout);
     let script = "import json, sys\n\
         for line in open(sys.argv[1], encoding='utf-8', newline='\\n'):\n\

@@ -1,24 +1,17 @@
--- Laws of what is printed: it is never empty, so no byte written says that it did not fit.
+-- Laws of what is printed to a buffer: of a text that is not empty, no byte written says that it did not fit.
 use Prim.Native.Nat.{ℕ, _<_}
-use mathlib.Core.List.{List, _++_}
+use mathlib.Core.List.{List}
 use mathlib.Core.Logic.{_↔_}
 use mathlib.Core.Path.{_≡_, sym, ap, subst, _∙_}
 use native.Mathlib.Omega.{arith}
 use lib.Dec.{ltb}
-use lib.ListN.{length, length-append}
+use lib.ListN.{length}
 use borrow.Author.Tests.{ltb-true, ltb-false}
 use Rattle.lines.specs.Put.{writtenOf, PutIs}
 use Rattle.lines.specs.declared.writer.Put.{Put}
-use Rattle.lines.proofs.LineTexts.{line-length}
 use Rattle.lines.proofs.Puts.{put-short, put-done}
 use Rattle.ordering.proofs.Basics.{byBool}
-use Rattle.writing.specs.Verdict.{verdictText}
 use Rattle.export.specs.Printed.{PrintedIs}
-
--- the verdict lines have at least the bytes of their words
-pub printed-some : (v l : ℕ) (s : List ℕ) → 0 < length (verdictText v l ++ s)
-unfolding verdictText
-printed-some v l s = simp (length-append, line-length) (omega arith)
 
 -- of a text that is not empty no byte is written exactly where it does not fit
 none-exactly : (t o p : List ℕ) (q : Put) → 0 < length t → PutIs t o p q → (writtenOf q ≡ 0) ↔ (length o < length t)

@@ -1,5 +1,5 @@
 -- The printed run as three pieces, and as the definition has it.
-use Prim.Native.Nat.{ℕ, _+_}
+use Prim.Native.Nat.{ℕ, _+_, _<_}
 use mathlib.Core.List.{List, [], _++_, append-nil}
 use mathlib.Core.Path.{_≡_, sym, ap, subst, _∙_}
 use native.Mathlib.Omega.{arith}
@@ -7,8 +7,10 @@ use lib.ListN.{length, take, length-append}
 use Rattle.lines.specs.Put.{PutIs}
 use Rattle.lines.specs.declared.writer.Put.{Put}
 use Rattle.writing.specs.Verdict.{verdictText}
+use Rattle.writing.proofs.VerdictLines.{verdict-length}
+use Rattle.model.specs.Host.{Result}
 use Rattle.host.specs.Printed.{recordedText}
-use Rattle.host.specs.Recorded.{recordOf, RecordIs}
+use Rattle.host.specs.Recorded.{Texts, resultOf, writtenOf, recordOf, RecordIs}
 use Rattle.host.specs.declared.Recorded.{Recorded}
 use Rattle.host.proofs.Fronts.{trace-front, report-front}
 
@@ -18,6 +20,14 @@ module _ (u t r : List ℕ) where
 
   pub three-lengths : length (u ++ (t ++ r)) ≡ length u + (length t + length r)
   three-lengths = omega (arith, length-append u (t ++ r), length-append t r)
+
+-- something is printed of every run, so that no byte written says that nothing was
+pub printed-some : (x : Result Texts) → 0 < length (recordedText x)
+unfolding recordedText
+printed-some x =
+    let r = resultOf x in
+    let t = writtenOf x in
+    omega (arith, three-lengths (verdictText (r .verdict) (r .line)) (t .trace) (t .report), verdict-length (r .verdict) (r .line))
 
 module _ (programs schedule trace report traceAfter reportAfter : List ℕ) (r : Recorded) (m : length trace ≡ 65535)
     (n : length report ≡ 65535)

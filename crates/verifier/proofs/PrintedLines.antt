@@ -1,5 +1,5 @@
 -- The printed lines as three pieces, and how long they are.
-use Prim.Native.Nat.{ℕ, _+_}
+use Prim.Native.Nat.{ℕ, _+_, _<_}
 use mathlib.Core.List.{List, [], _∷_, _++_, append-nil}
 use mathlib.Core.Path.{_≡_, sym, ap, subst}
 use native.Mathlib.Omega.{arith}
@@ -29,6 +29,10 @@ module _ (a : Audited) where
       + length (numbersText (a .operations ∷ []))
   unfolding auditedText
   printed-length = simp (length-append, line-length) (omega arith)
+
+  -- so that no byte written says that nothing was
+  pub printed-some : 0 < length (auditedText a)
+  printed-some = omega (arith, printed-length)
 
 pub put-as : (a b : Audited) (o p : List ℕ) (r : Put) → a ≡ b → PutIs (auditedText a) o p r → PutIs (auditedText b) o p r
 put-as a b o p r e h = subst (λ x. PutIs (auditedText x) o p r) e h
