@@ -14,6 +14,7 @@ use std::time::Duration;
 tests![
     the_launcher_whatever_the_environment,
     a_launcher_that_cannot_build,
+    every_tool_says_what_it_does,
 ];
 
 /// The first call may prove and build.
@@ -146,5 +147,29 @@ fn a_launcher_that_cannot_build(room: &Room) -> Done {
     ended.is(2).printed("");
     let said = String::from_utf8_lossy(&ended.stderr);
     assert!(said.contains("teaselshears: could not be run: "), "{ended}");
+    Ok(())
+}
+
+/// Who asks what a tool does is told so, at once and with nothing else done.
+fn every_tool_says_what_it_does(_: &Room) -> Done {
+    let _rt = with_rt()?;
+    let tools = root().join("tools");
+    // The launcher builds what has changed before it asks the program.
+    Command::new(launcher())
+        .arg("--help")
+        .end_within(LIMIT)
+        .is(0);
+    for name in names_in(&tools) {
+        for option in ["--help", "-h"] {
+            let ended = Command::new(tools.join(&name))
+                .arg(option)
+                .end_within(Duration::from_secs(5));
+            assert_eq!(ended.status.code(), Some(0), "{name:?} {option}; {ended}");
+            assert!(
+                ended.text().starts_with("usage: "),
+                "{name:?} {option}; {ended}"
+            );
+        }
+    }
     Ok(())
 }
