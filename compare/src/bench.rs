@@ -12,10 +12,23 @@ use std::hint::black_box;
 use std::process::Command;
 use std::time::{Duration, Instant};
 
-#[derive(Clone, Copy, Debug)]
+/// `Read` is the audit of texts whose report has an unreadable last line, so that it ends at row 5: the texts
+/// are read, programs and trace are checked, and no more.
+#[derive(Clone, Copy, Debug, PartialEq)]
 enum Function {
     Audit,
+    Read,
     Record,
+}
+
+impl Function {
+    /// The verdict that each side must give.
+    fn verdict(self) -> u64 {
+        match self {
+            Function::Audit | Function::Record => 0,
+            Function::Read => 5,
+        }
+    }
 }
 
 #[derive(Clone, Copy)]
@@ -34,7 +47,10 @@ struct Subject {
 }
 
 impl Subject {
-    fn new(function: Function, measured: Measured) -> Subject {
+    fn new(function: Function, mut measured: Measured) -> Subject {
+        if function == Function::Read {
+            measured.batch.report.extend(b"?\n");
+        }
         Subject {
             function,
             measured,
@@ -49,8 +65,8 @@ impl Subject {
             schedule, batch, ..
         } = &self.measured;
         match (self.function, side) {
-            (Function::Audit, Side::Proved) => proved::audit(batch).verdict,
-            (Function::Audit, Side::Rust) => {
+            (Function::Audit | Function::Read, Side::Proved) => proved::audit(batch).verdict,
+            (Function::Audit | Function::Read, Side::Rust) => {
                 audit::audit(&batch.programs, &batch.trace, &batch.report).verdict
             }
             (Function::Record, Side::Proved) => {
@@ -72,6 +88,8 @@ fn subjects() -> Vec<Subject> {
     let longest = batches::longest_schedule();
     let recorded = vec![batches::usual(), batches::worst(), longest];
     let mut subjects = of(Function::Audit, audited);
+    let read = [batches::usual(), batches::worst()];
+    subjects.extend(read.map(|input| Subject::new(Function::Read, input)));
     subjects.extend(of(Function::Record, recorded));
     subjects
 }
@@ -97,31 +115,79 @@ fn print_table() -> Result<(), String> {
     if !counting {
         println!("valgrind is not installed: instructions are not counted");
     }
-    let heads = ["function", "input", "measured", "proved", "Rust", "ratio"];
-    print_row(heads.map(str::to_string));
-    print_row(heads.map(|_| "---".to_string()));
+    print_heads(["function", "input", "measured", "proved", "Rust", "ratio"]);
     let mut subjects = subjects();
+    let mut figures = Vec::new();
     for (place, subject) in subjects.iter_mut().enumerate() {
-        if subject.call(Side::Proved) != 0 || subject.call(Side::Rust) != 0 {
-            return Err(format!("{} is not accepted", subject.measured.name));
-        }
-        let times = best_times(subject).map(|time| time.as_nanos() as f64 / 1e3);
-        print_measured(subject, "time, µs", times, 1);
-        if counting {
-            let counts = [Side::Proved, Side::Rust].map(|side| instructions(place, side));
-            let [proved, rust] = counts;
-            print_measured(subject, "instructions", [proved?, rust?], 0);
+        for figure in measure(subject, place, counting)? {
+            if subject.function != Function::Read {
+                print_figures(&figure, figure.proved, figure.rust);
+            }
+            figures.push(figure);
         }
     }
+    print_reading(&figures);
     print_sizes(&subjects);
     Ok(())
+}
+
+/// What was measured of a function on an input, for each side.
+struct Figure {
+    function: Function,
+    input: String,
+    what: &'static str,
+    decimals: usize,
+    proved: f64,
+    rust: f64,
+}
+
+/// The time, and the instructions where they can be counted.
+fn measure(subject: &mut Subject, place: usize, counting: bool) -> Result<Vec<Figure>, String> {
+    let (function, input) = (subject.function, subject.measured.name.clone());
+    let expected = function.verdict();
+    if [Side::Proved, Side::Rust].map(|side| subject.call(side)) != [expected; 2] {
+        return Err(format!("{input} is not verdict {expected}"));
+    }
+    let figure = |what, decimals, [proved, rust]: [f64; 2]| Figure {
+        function,
+        input: input.clone(),
+        what,
+        decimals,
+        proved,
+        rust,
+    };
+    let times = best_times(subject).map(|time| time.as_nanos() as f64 / 1e3);
+    let mut figures = vec![figure("time, µs", 1, times)];
+    if counting {
+        let [proved, rust] = [Side::Proved, Side::Rust].map(|side| instructions(place, side));
+        figures.push(figure("instructions", 0, [proved?, rust?]));
+    }
+    Ok(figures)
+}
+
+/// The proved audit against its reading of the same texts alone.
+fn print_reading(figures: &[Figure]) {
+    println!("\nThe proved audit, and how much of it is reading the same texts:\n");
+    print_heads(["function", "input", "measured", "audit", "read", "ratio"]);
+    for read in figures
+        .iter()
+        .filter(|read| read.function == Function::Read)
+    {
+        let same = |audit: &&Figure| audit.input == read.input && audit.what == read.what;
+        if let Some(audit) = figures.iter().find(same) {
+            print_figures(audit, audit.proved, read.proved);
+        }
+    }
 }
 
 /// The size of each input, once.
 fn print_sizes(subjects: &[Subject]) {
     println!();
     let mut sizes: Vec<String> = Vec::new();
-    for size in subjects.iter().map(|subject| subject.measured.sizes()) {
+    let whole = subjects
+        .iter()
+        .filter(|subject| subject.function != Function::Read);
+    for size in whole.map(|subject| subject.measured.sizes()) {
         if !sizes.contains(&size) {
             println!("{size}");
             sizes.push(size);
@@ -129,21 +195,26 @@ fn print_sizes(subjects: &[Subject]) {
     }
 }
 
-fn print_measured(subject: &Subject, what: &str, [proved, rust]: [f64; 2], decimals: usize) {
+/// A row with one figure, the other it is held against, and their ratio.
+fn print_figures(figure: &Figure, one: f64, other: f64) {
+    let decimals = figure.decimals;
     print_row([
-        format!("{:?}", subject.function).to_lowercase(),
-        subject.measured.name.clone(),
-        what.to_string(),
-        format!("{proved:.decimals$}"),
-        format!("{rust:.decimals$}"),
-        format!("{:.2}", proved / rust),
+        format!("{:?}", figure.function).to_lowercase(),
+        figure.input.clone(),
+        figure.what.to_string(),
+        format!("{one:.decimals$}"),
+        format!("{other:.decimals$}"),
+        format!("{:.2}", one / other),
     ]);
 }
 
-fn print_row([function, input, what, proved, rust, ratio]: [String; 6]) {
-    println!(
-        "| {function:<8} | {input:<16} | {what:<12} | {proved:>10} | {rust:>10} | {ratio:>5} |"
-    );
+fn print_heads(heads: [&str; 6]) {
+    print_row(heads.map(str::to_string));
+    print_row(heads.map(|_| "---".to_string()));
+}
+
+fn print_row([function, input, what, one, other, ratio]: [String; 6]) {
+    println!("| {function:<8} | {input:<16} | {what:<12} | {one:>10} | {other:>10} | {ratio:>5} |");
 }
 
 /// A sample is as many calls as take about this long, so that the clock's own time does not show.

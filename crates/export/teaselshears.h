@@ -7,7 +7,7 @@
      that is lent must overlap neither a text nor another buffer.
    - Threads: any number at once. There is no state between two calls.
    - Allocation: none, and no call of the system.
-   - Stack, as measured: 240 KiB for the audit in both forms, 320 KiB for teaselshears_record, 450 KiB for
+   - Stack, as measured: 200 KiB for the audit in both forms, 320 KiB for teaselshears_record, 450 KiB for
      teaselshears_record_text. Give a thread that calls one of them 1 MiB. */
 #ifndef TEASELSHEARS_H
 #define TEASELSHEARS_H

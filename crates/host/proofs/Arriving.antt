@@ -1,18 +1,17 @@
 -- The loop over a schedule, at an arrival: it breaks row 14, or the request opens.
 use Prim.Native.Nat.{ℕ, suc, _+_, _%_, _≤_, _<_, zero}
-use mathlib.Core.Bool.{true, false}
+use mathlib.Core.Bool.{true}
 use mathlib.Core.List.{List, [], _∷_}
 use mathlib.Core.Path.{_≡_, refl, sym, ap, subst, _∙_}
 use native.Mathlib.Nat.{mod-eq-of-lt}
 use native.Mathlib.Omega.{arith}
 use lib.Dec.{ltb}
-use lib.ListN.{getD, set}
+use lib.ListN.{length, getD, set}
 use borrow.Author.Tests.{lt-ltb, ltb-true, ltb-false}
-use Rattle.text.specs.Held.{programAt, moveAt, tableIn}
+use Rattle.text.specs.Held.{moveAt}
 use Rattle.text.specs.Rows.{row}
-use Rattle.text.specs.declared.programs.Programs.{Programs}
+use Rattle.text.specs.declared.programs.Program.{Program}
 use Rattle.text.specs.declared.schedule.Move.the-variants.{Arrive}
-use Rattle.text.proofs.RowLaws.{firsts-length}
 use Rattle.ordering.proofs.Basics.{clash, byBool, byEq}
 use Rattle.model.specs.Host.{Host, broken, fault, arrive, afterArrival, stepped}
 use Rattle.model.specs.PlainRun.{Phase, absent, opened, closed}
@@ -32,7 +31,6 @@ use Rattle.host.proofs.Running.{
   left,
   whole,
   Running,
-  known-is,
   requests-are,
   events-are,
   breaks,
@@ -48,10 +46,11 @@ slot-seen states ofs zero n e = n refl
 slot-seen states ofs (suc s) n e =
     byBool (isOpenIn (row 12 states s)) (λ t. let e′ = rw t at e in clash (cc)) (λ t. let e′ = rw t at e in clash (cc))
 
-module _ {ps : Programs} {moves arrivals : List ℕ} {n i : ℕ} {c : Counts} {slots states ofs events logs registers heads befores : List ℕ}
-    (g : Running ps moves arrivals n i c slots states ofs events logs registers heads befores) (h : i < n)
+module _ {table : List Program} {moves arrivals : List ℕ} {n i : ℕ} {c : Counts}
+    {slots states ofs events logs registers heads befores : List ℕ}
+    (g : Running table moves arrivals n i c slots states ofs events logs registers heads befores) (h : i < n)
     {r prog a b : ℕ} (e : Arrive r prog a b ≡ moveAt moves arrivals i) where
-  abbrev h₀ : Host (M (tableIn ps))
+  abbrev h₀ : Host (M table)
   h₀ = g .host
 
   rid : r < 65536
@@ -72,48 +71,51 @@ module _ {ps : Programs} {moves arrivals : List ℕ} {n i : ℕ} {c : Counts} {s
   slot : r % 65536 ≡ r
   slot = mod-eq-of-lt rid
 
-  step-is : stepped (M (tableIn ps)) (known (tableIn ps)) 1024 h₀ (moveAt moves arrivals i)
-      ≡ stepped (M (tableIn ps)) (known (tableIn ps)) 1024 h₀ (Arrive r prog a b)
-  step-is = ap (stepped (M (tableIn ps)) (known (tableIn ps)) 1024 h₀) (sym e)
+  step-is : stepped (M table) (known table) 1024 h₀ (moveAt moves arrivals i)
+      ≡ stepped (M table) (known table) 1024 h₀ (Arrive r prog a b)
+  step-is = ap (stepped (M table) (known table) 1024 h₀) (sym e)
 
-  not-absent : (f : Phase (M (tableIn ps))) → (seen (tableIn ps) f ≡ missing → ⊥) →
-      arrive (M (tableIn ps)) h₀ r prog a b f ≡ broken
+  not-absent : (f : Phase (M table)) → (seen table f ≡ missing → ⊥) →
+      arrive (M table) h₀ r prog a b f ≡ broken
   not-absent absent k = absurd (k refl)
   not-absent (opened p k′) k = refl
   not-absent (closed w k′) k = refl
 
-  module _ {slots′ states′ ofs′ events′ : List ℕ} {x : Step}
-      (f : ArriveIs (ps .n) c r prog a b slots states ofs events slots′ states′ ofs′ events′ x) where
-    pub arrival-breaks : x ≡ Broken → whole ps moves arrivals n ≡ fault 14 (i + 1)
+  module _ {m : ℕ} (q : m ≡ length table) {slots′ states′ ofs′ events′ : List ℕ} {x : Step}
+      (is : ArriveIs m c r prog a b slots states ofs events slots′ states′ ofs′ events′ x) where
+    f : ArriveIs (length table) c r prog a b slots states ofs events slots′ states′ ofs′ events′ x
+    f = subst (λ m. ArriveIs m c r prog a b slots states ofs events slots′ states′ ofs′ events′ x) q is
+
+    pub arrival-breaks : x ≡ Broken → whole table moves arrivals n ≡ fault 14 (i + 1)
     arrival-breaks d =
         breaks g h
-        (step-is ∙ byBool (ltb prog (ps .n))
-        (λ t. rw (known-is ps prog true t)
+        (step-is ∙ byBool (ltb prog (length table))
+        (λ t. rw t
         (byEq (getD slots r 0) 0
-        (λ z _. let y = f .arrives (ltb-true prog (ps .n) t) (ap (λ r. getD slots r 0) slot ∙ z) in
+        (λ z _. let y = f .arrives (ltb-true prog (length table) t) (ap (λ r. getD slots r 0) slot ∙ z) in
         let w : Broken ≡ On (y .0) = sym d ∙ y .1 in clash (cc))
         (λ z _. not-absent (h₀ .state .phase r)
         (λ w. slot-seen states ofs (getD slots r 0) z (sym (g .requests .phases r rid) ∙ w)))))
-        (λ t. rw (known-is ps prog false t) refl))
+        (λ t. rw t refl))
 
     pub arrival-on : (d : Counts) → x ≡ On d →
-        Running ps moves arrivals n (i + 1) d slots′ states′ ofs′ events′ logs registers heads befores
+        Running table moves arrivals n (i + 1) d slots′ states′ ofs′ events′ logs registers heads befores
     arrival-on d o =
-        byBool (ltb prog (ps .n))
+        byBool (ltb prog (length table))
         (λ t. byEq (getD slots (r % 65536) 0) 0
-        (λ z _. let y = f .arrives (ltb-true prog (ps .n) t) z in let w : y .0 ≡ d = cc in
-        at (ltb-true prog (ps .n) t) (ap (λ r. getD slots r 0) (sym slot) ∙ z)
+        (λ z _. let y = f .arrives (ltb-true prog (length table) t) z in let w : y .0 ≡ d = cc in
+        at (ltb-true prog (length table) t) (ap (λ r. getD slots r 0) (sym slot) ∙ z)
         (subst (Arrived c r prog a b slots states ofs events slots′ states′ ofs′ events′) w (y .2)))
-        (λ z _. let w : Broken ≡ On d = sym (f .twice (ltb-true prog (ps .n) t) z) ∙ o in clash (cc)))
-        (λ t. let w : Broken ≡ On d = sym (f .unknown (ltb-false prog (ps .n) t)) ∙ o in clash (cc))
+        (λ z _. let w : Broken ≡ On d = sym (f .twice (ltb-true prog (length table) t) z) ∙ o in clash (cc)))
+        (λ t. let w : Broken ≡ On d = sym (f .unknown (ltb-false prog (length table) t)) ∙ o in clash (cc))
       where
-        at : prog < ps .n → getD slots r 0 ≡ 0 → Arrived c r prog a b slots states ofs events slots′ states′ ofs′ events′ d →
-            Running ps moves arrivals n (i + 1) d slots′ states′ ofs′ events′ logs registers heads befores
+        at : prog < length table → getD slots r 0 ≡ 0 → Arrived c r prog a b slots states ofs events slots′ states′ ofs′ events′ d →
+            Running table moves arrivals n (i + 1) d slots′ states′ ofs′ events′ logs registers heads befores
         at k new y =
             let new-phase : h₀ .state .phase r ≡ absent =
-            absent-seen (tableIn ps) (h₀ .state .phase r)
+            absent-seen table (h₀ .state .phase r)
             (g .requests .phases r rid ∙ ap (seenSlot states ofs) new) in
-            let knows : known (tableIn ps) prog ≡ true = known-is ps prog true (lt-ltb prog (ps .n) k) in
+            let knows : known table prog ≡ true = lt-ltb prog (length table) k in
             let room = arrival-room in
             let s : slots′ ≡ set slots r (c .requests + 1) = y .slot ∙ ap (λ r. set slots r (c .requests + 1)) slot in
             rw (y .counted, s, y .state, y .own, y .event)
@@ -121,21 +123,19 @@ module _ {ps : Programs} {moves arrivals : List ℕ} {n i : ℕ} {c : Counts} {s
               within = omega arith;
               scheduled = g .scheduled;
               movesRoom = g .movesRoom;
-              few = g .few;
-              bounded = g .bounded;
-              host = afterArrival (M (tableIn ps)) h₀ r prog a b;
+              host = afterArrival (M table) h₀ r prog a b;
               goes =
                   goes-next g h
-                  (afterArrival (M (tableIn ps)) h₀ r prog a b) (step-is ∙ rw (knows, new-phase) refl);
+                  (afterArrival (M table) h₀ r prog a b) (step-is ∙ rw (knows, new-phase) refl);
               rids = all-rids g h .1;
               toCome = omega (arith, more);
               requests =
-                  opens (tableIn ps) slots states ofs (c .requests) (c .operations) (h₀ .state .phase) (h₀ .trace)
-                  (g .requests) r prog a b rid (omega (arith, k, firsts-length (programAt (ps .table)) (ps .n))) new (room .0);
+                  opens table slots states ofs (c .requests) (c .operations) (h₀ .state .phase) (h₀ .trace)
+                  (g .requests) r prog a b rid k new (room .0);
               events-held = event-joins events (c .events) (h₀ .trace) (0 ∷ r ∷ prog ∷ a ∷ b ∷ []) refl (room .1) (g .events-held);
               lines = g .lines;
               objects = g .objects;
               faithful =
-                  faithful-arrive (M (tableIn ps)) (known (tableIn ps)) 16 atStart (h₀ .state) (h₀ .trace)
+                  faithful-arrive (M table) (known table) 16 atStart (h₀ .state) (h₀ .trace)
                   r prog a b (g .faithful) new-phase knows;
             })

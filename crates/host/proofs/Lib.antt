@@ -1,6 +1,7 @@
 -- The worked schedules, computed (Stars); what was read is in range (Readings); what is written stands in front of
 -- the buffers (Fronts), is accepted (Acceptance) and printed (PrintedTexts);
--- and the laws that functions rest on: of row 16 (Fitting), of the log by object (Picking, Sorting).
+-- and the laws that functions rest on: of row 16 (Fitting), of the log by object (Picking, Sorting), of the program table
+-- in numbers (Tables).
 mod Stars
 pub mod Readings
 pub mod Fronts
@@ -10,6 +11,7 @@ pub mod Fitting
 pub mod Picking
 pub mod Sorting
 pub mod States
+pub mod Tables
 pub mod Promises
 pub mod Slots
 pub mod LogLines

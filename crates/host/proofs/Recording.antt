@@ -14,6 +14,7 @@ use Rattle.text.specs.Schedule.{readSchedule}
 use Rattle.text.specs.Text.{readable, unreadable}
 use Rattle.text.specs.declared.kinds.Lines.the-variants.{Readable, Unreadable}
 use Rattle.text.specs.declared.kinds.Lines.{Lines}
+use Rattle.text.specs.declared.programs.Program.{Program}
 use Rattle.text.specs.declared.programs.Programs.{Programs}
 use Rattle.text.specs.declared.schedule.Move.the-variants.{Arrive, Turn}
 use Rattle.text.specs.declared.schedule.Move.{Move}
@@ -29,6 +30,7 @@ use Rattle.host.specs.Recorded.{andThen, Texts, textsOf, fitted, recordO
 use Rattle.host.specs.Recorded as recorded
 use Rattle.host.specs.Runs.{leftOpen, M, RidIn, movesIn, ran, recordedMoves, Scheduled, Ready, Finished, RunIs}
 use Rattle.host.specs.Steps.{heldTexts, Sorted}
+use Rattle.host.specs.Tables.{Table, programsOf, Laid}
 use Rattle.host.specs.declared.Recorded.{Recorded}
 use Rattle.host.specs.declared.runs.Run.the-variants.{Breaks, Ends}
 use Rattle.host.specs.declared.runs.Run.{Run}
@@ -36,6 +38,7 @@ use Rattle.host.specs.declared.steps.Counts.{Counts}
 use Rattle.host.proofs.Acceptance.{record-accepted}
 use Rattle.host.proofs.Finishing.{row15-is, texts-are}
 use Rattle.host.proofs.Readings.{MoveIn, schedule-in}
+use Rattle.host.proofs.Tables.{recorded-same}
 
 -- a refusal writes nothing
 pub refuses : (x : Result Texts) (o p : List ℕ) (verdict line : ℕ) (r : Recorded) → x ≡ fault verdict line →
@@ -44,52 +47,54 @@ unfolding front
 refuses x o p verdict line r e d = rw e (record { result = d; traceBytes = refl; reportBytes = refl })
 
 -- ── rows 14 to 16 ──
-module _ (ps : Programs) (moves arrivals : List ℕ) (n : ℕ) where
-  pub ready : (slots states ofs events logs : List ℕ) → Scheduled ps moves arrivals n → slots ≡ replicate 65536 0 → length states ≡ 768 →
-      length ofs ≡ 192 → length events ≡ 640 → length logs ≡ 6144 → Ready ps moves arrivals n slots states ofs events logs
-  ready slots states ofs events logs s a b c d e =
-      record { scheduled = s; slotsBlank = a; statesRoom = b; ofsRoom = c; eventsRoom = d; logsRoom = e }
+pub ready : (moves arrivals : List ℕ) (n : ℕ) (slots states ofs events logs : List ℕ) → Scheduled moves arrivals n →
+    slots ≡ replicate 65536 0 → length states ≡ 768 → length ofs ≡ 192 → length events ≡ 640 → length logs ≡ 6144 →
+    Ready moves arrivals n slots states ofs events logs
+ready moves arrivals n slots states ofs events logs s a b c d e =
+    record { scheduled = s; slotsBlank = a; statesRoom = b; ofsRoom = c; eventsRoom = d; logsRoom = e }
 
+module _ (table : List Program) (moves arrivals : List ℕ) (n : ℕ) where
   abbrev moved : List Move
   moved = movesIn moves arrivals n
 
-  module _ (u v : ℕ) (slots states ofs events logs : List ℕ) (x : Run) (f : RunIs ps moves arrivals n slots states ofs events logs x) where
-    pub at-14 : (line : ℕ) → x ≡ Breaks line → recordedMoves (tableIn ps) moved u v ≡ fault 14 line
+  module _ (u v : ℕ) (slots states ofs events logs : List ℕ) (x : Run)
+      (f : RunIs table moves arrivals n slots states ofs events logs x) where
+    pub at-14 : (line : ℕ) → x ≡ Breaks line → recordedMoves table moved u v ≡ fault 14 line
     unfolding RunIs
     at-14 line e =
-        let d : ran (tableIn ps) moved ≡ fault 14 line = subst (RunIs ps moves arrivals n slots states ofs events logs) e f in
-        ap (λ z. andThen (write (M (tableIn ps)) 16 moved z) (λ b. fitted u v (textsOf b))) d
+        let d : ran table moved ≡ fault 14 line = subst (RunIs table moves arrivals n slots states ofs events logs) e f in
+        ap (λ z. andThen (write (M table) 16 moved z) (λ b. fitted u v (textsOf b))) d
 
     module _ (c : Counts) (e : x ≡ Ends c) where
-      finished : Finished ps moves arrivals n slots states ofs events logs c
+      finished : Finished table moves arrivals n slots states ofs events logs c
       unfolding RunIs
-      finished = subst (RunIs ps moves arrivals n slots states ofs events logs) e f
+      finished = subst (RunIs table moves arrivals n slots states ofs events logs) e f
 
       pub few-lines : c .operations ≤ 1024
       few-lines = finished .lines .few
 
       abbrev closes : Option ℕ → Result Texts
-      closes o = andThen (close (M (tableIn ps)) 16 (finished .host) o) (λ b. fitted u v (textsOf b))
+      closes o = andThen (close (M table) 16 (finished .host) o) (λ b. fitted u v (textsOf b))
 
-      closing : (s : Scheduled ps moves arrivals n) → (o : Option ℕ) → o ≡ firstBad (leftOpen slots states) 1 [] moved →
-          recordedMoves (tableIn ps) moved u v ≡ closes o
+      closing : (s : Scheduled moves arrivals n) → (o : Option ℕ) → o ≡ firstBad (leftOpen slots states) 1 [] moved →
+          recordedMoves table moved u v ≡ closes o
       closing s o d =
           let w = finished in
-          let z = row15-is (tableIn ps) slots states ofs (c .requests) (c .operations) (w .host .state) (w .host .trace) (w .requests) moved
+          let z = row15-is table slots states ofs (c .requests) (c .operations) (w .host .state) (w .host .trace) (w .requests) moved
           (s .rids) in
-          ap (λ z. andThen (write (M (tableIn ps)) 16 moved z) (λ b. fitted u v (textsOf b))) (w .made-it)
+          ap (λ z. andThen (write (M table) 16 moved z) (λ b. fitted u v (textsOf b))) (w .made-it)
           ∙ ap closes (z ∙ sym d)
 
-      module _ (s : Scheduled ps moves arrivals n) (y : Ruling) (d : brokenLine y ≡ firstBad (leftOpen slots states) 1 [] moved) where
-        pub at-15 : (line : ℕ) → y ≡ Broken line → recordedMoves (tableIn ps) moved u v ≡ fault 15 line
+      module _ (s : Scheduled moves arrivals n) (y : Ruling) (d : brokenLine y ≡ firstBad (leftOpen slots states) 1 [] moved) where
+        pub at-15 : (line : ℕ) → y ≡ Broken line → recordedMoves table moved u v ≡ fault 15 line
         at-15 line k = closing s (brokenLine y) d ∙ ap (λ y. closes (brokenLine y)) k
 
         pub past-15 : y ≡ Kept → (sorted : List ℕ) (l : ℕ) → Sorted logs (c .operations) 16 sorted l →
-            recordedMoves (tableIn ps) moved u v ≡ fitted u v (heldTexts events (c .events) ofs (c .requests) sorted l)
+            recordedMoves table moved u v ≡ fitted u v (heldTexts events (c .events) ofs (c .requests) sorted l)
         past-15 k sorted l z =
             let w = finished in
             closing s (brokenLine y) d ∙ ap (λ y. closes (brokenLine y)) k
-            ∙ ap (fitted u v) (sym (texts-are (tableIn ps) slots states ofs events logs sorted (c .requests) (c .events) (c .operations) l
+            ∙ ap (fitted u v) (sym (texts-are table slots states ofs events logs sorted (c .requests) (c .events) (c .operations) l
             (w .host) (w .requests) (w .events-held) (w .lines) z))
 
 pub record-as : (x y : Result Texts) (o p o′ p′ : List ℕ) (r : Recorded) → x ≡ y → RecordIs y o p o′ p′ r → RecordIs x o p o′ p′ r
@@ -134,16 +139,17 @@ module _ (s schedule : List ℕ) (u v : ℕ) (ps : Programs) (h : ProgramsIs s p
           unfolding readIn
           moves-read = sym (g .read) ∙ ap (readIn (moveAt moves arrivals)) d
 
-          pub past-13 : recordOf s schedule u v ≡ recordedMoves (tableIn ps) (movesIn moves arrivals n) u v
+          pub past-13 : (table : Table) → Laid ps table →
+              recordOf s schedule u v ≡ recordedMoves (programsOf table (ps .n)) (movesIn moves arrivals n) u v
           unfolding recordOf recorded.batchOf
-          past-13 = rw (← table-read s ps h ok, z, moves-read) refl
+          past-13 table w =
+              rw (← table-read s ps h ok, z, moves-read)
+              (recorded-same ps table (h .few) (h .bounded) w (movesIn moves arrivals n) u v)
 
-          pub scheduled : Scheduled ps moves arrivals n
+          pub scheduled : Scheduled moves arrivals n
           scheduled =
               let w = schedule-in schedule (movesIn moves arrivals n) moves-read in
               record {
-                few = h .few;
-                bounded = h .bounded;
                 lines = subst (λ l. linesIn l ≤ 9362) d (g .few);
                 movesRoom = g .room;
                 rids = rids-in (movesIn moves arrivals n) (w .moves);

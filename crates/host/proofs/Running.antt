@@ -1,7 +1,7 @@
 -- The loop over a schedule: the arrays hold the state of the model's host, and what is left of the schedule, run from it, gives what the
 -- whole gives.
 use Prim.Native.Nat.{ℕ, zero, suc, _+_, _-_, _≤_, _<_}
-use mathlib.Core.Bool.{Bool, true, false}
+use mathlib.Core.Bool.{true, false}
 use mathlib.Core.List.{List, [], _∷_, _++_}
 use mathlib.Core.Path.{_≡_, refl, sym, ap, subst, _∙_}
 use mathlib.Core.Logic.{_⊎_, inl, inr}
@@ -10,10 +10,9 @@ use native.Mathlib.Omega.{arith}
 use lib.Dec.{ltb}
 use lib.ListN.{length, getD, replicate, length-replicate, getD-replicate}
 use borrow.Author.Tests.{ltb-true, ltb-false}
-use Rattle.text.specs.Held.{noProgram, Bounded, eventAt, moveAt, tableIn}
+use Rattle.text.specs.Held.{eventAt, moveAt}
 use Rattle.text.specs.Rows.{row, firsts}
 use Rattle.text.specs.declared.programs.Program.{Program}
-use Rattle.text.specs.declared.programs.Programs.{Programs}
 use Rattle.text.specs.declared.schedule.Move.the-variants.{Turn}
 use Rattle.text.specs.declared.schedule.Move.{Move}
 use Rattle.text.specs.declared.trace.Event.the-variants.{Request, Response}
@@ -29,9 +28,8 @@ use Rattle.machine.specs.Instance.{known}
 use Rattle.machine.specs.Objects.{atStart}
 use Rattle.machine.proofs.Passing.{registers-start, index-start}
 use Rattle.host.specs.Moves.{counts}
-use Rattle.host.specs.Requests.{isOpenIn, progressIn, standingIn}
+use Rattle.host.specs.Requests.{isOpenIn, standingIn}
 use Rattle.host.specs.Runs.{
-  over,
   seenSlot,
   ridsOf,
   M,
@@ -71,7 +69,7 @@ module _ (states : List ℕ) where
   abbrev pub Finds : Standing → ℕ → Type 0
   Finds Missing slot = (slot ≡ 0) ⊎ (64 < slot)
   Finds Idle slot = (s : ℕ) × (slot ≡ suc s) × (isOpenIn (row 12 states s) ≡ false)
-  Finds (Open s prog) slot = (slot ≡ suc s) × (s < 64) × (isOpenIn (row 12 states s) ≡ true) × (prog ≡ progressIn (row 12 states s) .prog)
+  Finds (Open s) slot = (slot ≡ suc s) × (s < 64) × (isOpenIn (row 12 states s) ≡ true)
 
   pub finds : (slot : ℕ) (x : Standing) → x ≡ standingIn states slot → Finds x slot
   unfolding standingIn
@@ -81,8 +79,8 @@ module _ (states : List ℕ) where
       byBool (ltb s 64)
       (λ t. byBool (isOpenIn v)
       (λ o.
-      let d : x ≡ Open s (progressIn v .prog) = e ∙ rw (t, o) refl in
-      subst (λ x. Finds x (suc s)) (sym d) (refl, ltb-true s 64 t, o, refl))
+      let d : x ≡ Open s = e ∙ rw (t, o) refl in
+      subst (λ x. Finds x (suc s)) (sym d) (refl, ltb-true s 64 t, o))
       (λ o.
       let d : x ≡ Idle = e ∙ rw (t, o) refl in
       subst (λ x. Finds x (suc s)) (sym d) (s, refl, o)))
@@ -102,28 +100,26 @@ turn-below moves arrivals i r e =
 abbrev pub left : (moves arrivals : List ℕ) (n i : ℕ) → List Move
 left moves arrivals n i = from (moveAt moves arrivals) i (n - i)
 
-abbrev pub whole : (ps : Programs) (moves arrivals : List ℕ) (n : ℕ) → Result (Host (M (tableIn ps)))
-whole ps moves arrivals n = ran (tableIn ps) (movesIn moves arrivals n)
+abbrev pub whole : (table : List Program) (moves arrivals : List ℕ) (n : ℕ) → Result (Host (M table))
+whole table moves arrivals n = ran table (movesIn moves arrivals n)
 
-module _ (ps : Programs) (moves arrivals : List ℕ) (n : ℕ) where
+module _ (table : List Program) (moves arrivals : List ℕ) (n : ℕ) where
   pub record Running (i : ℕ) (c : Counts) (slots states ofs events logs registers heads befores : List ℕ) : Type 0 where
     pub within : i ≤ n
     pub scheduled : n ≤ 9362
     pub movesRoom : length moves ≡ 9362
-    pub few : ps .n ≤ 16
-    pub bounded : (k : ℕ) → k < ps .n → Bounded (getD (ps .table) k noProgram)
-    pub host : Host (M (tableIn ps))
-    pub goes : ranFrom (tableIn ps) (suc i) (left moves arrivals n i) host ≡ whole ps moves arrivals n
+    pub host : Host (M table)
+    pub goes : ranFrom table (suc i) (left moves arrivals n i) host ≡ whole table moves arrivals n
     pub rids : All RidIn (left moves arrivals n i)
     pub toCome : c .requests + arrivalsIn (left moves arrivals n i) ≤ 64
-    pub requests : RequestsIs (tableIn ps) slots states ofs (c .requests) (c .operations) (host .state .phase) (host .trace)
+    pub requests : RequestsIs table slots states ofs (c .requests) (c .operations) (host .state .phase) (host .trace)
     pub events-held : EventsIs events (c .events) (host .trace)
     pub lines : LinesIs logs (c .operations) (host .state .logs)
     pub objects : ObjectsIs logs registers heads befores (c .operations) (host .state .contents) (host .operations)
-    pub faithful : Faithful (M (tableIn ps)) (known (tableIn ps)) 16 atStart (host .state) (host .trace)
+    pub faithful : Faithful (M table) (known table) 16 atStart (host .state) (host .trace)
 
   -- before the first line
-  pub run-start : (slots states ofs events logs : List ℕ) → Ready ps moves arrivals n slots states ofs events logs →
+  pub run-start : (slots states ofs events logs : List ℕ) → Ready moves arrivals n slots states ofs events logs →
       Running 0 (counts 0 0 0) slots states ofs events logs (replicate 8 0) (replicate 1016 0) (replicate 1024 0)
   unfolding firsts
   run-start slots states ofs events logs h =
@@ -136,10 +132,8 @@ module _ (ps : Programs) (moves arrivals : List ℕ) (n : ℕ) where
         within = omega arith;
         scheduled = h .scheduled .lines;
         movesRoom = h .scheduled .movesRoom;
-        few = h .scheduled .few;
-        bounded = h .scheduled .bounded;
-        host = empty (M (tableIn ps)) atStart;
-        goes = ap (λ ms. ranFrom (tableIn ps) 1 ms (empty (M (tableIn ps)) atStart)) all;
+        host = empty (M table) atStart;
+        goes = ap (λ ms. ranFrom table 1 ms (empty (M table) atStart)) all;
         rids = subst (All RidIn) (sym all) (h .scheduled .rids);
         toCome = omega (arith, h .scheduled .arrivalsFew, ap arrivalsIn all);
         requests =
@@ -162,17 +156,12 @@ module _ (ps : Programs) (moves arrivals : List ℕ) (n : ℕ) where
               registersHeld = registers-start _;
               index = index-start _;
             };
-        faithful = faithful-empty (M (tableIn ps)) (known (tableIn ps)) 16 atStart;
+        faithful = faithful-empty (M table) (known table) 16 atStart;
       }
 
-pub known-is : (ps : Programs) (prog : ℕ) (b : Bool) → ltb prog (ps .n) ≡ b → known (tableIn ps) prog ≡ b
-known-is ps prog b e = ap (ltb prog) (firsts-length _ (ps .n)) ∙ e
-
-module _ {ps : Programs} {moves arrivals : List ℕ} {n i : ℕ} {c : Counts} {slots states ofs events logs registers heads befores : List ℕ}
-    (g : Running ps moves arrivals n i c slots states ofs events logs registers heads befores) where
-  abbrev T : List Program
-  T = tableIn ps
-
+module _ {table : List Program} {moves arrivals : List ℕ} {n i : ℕ} {c : Counts}
+    {slots states ofs events logs registers heads befores : List ℕ}
+    (g : Running table moves arrivals n i c slots states ofs events logs registers heads befores) where
   abbrev move : ℕ → Move
   move = moveAt moves arrivals
 
@@ -180,11 +169,11 @@ module _ {ps : Programs} {moves arrivals : List ℕ} {n i : ℕ} {c : Counts} {s
   next = left moves arrivals n (i + 1)
 
   -- at the end
-  pub run-ends : n ≤ i → Finished ps moves arrivals n slots states ofs events logs c
+  pub run-ends : n ≤ i → Finished table moves arrivals n slots states ofs events logs c
   run-ends h =
       record {
         host = g .host;
-        made-it = sym (g .goes) ∙ ap (λ ms. ranFrom T (suc i) ms (g .host)) (from-end move h);
+        made-it = sym (g .goes) ∙ ap (λ ms. ranFrom table (suc i) ms (g .host)) (from-end move h);
         requests = g .requests;
         events-held = g .events-held;
         lines = g .lines;
@@ -200,20 +189,21 @@ module _ {ps : Programs} {moves arrivals : List ℕ} {n i : ℕ} {c : Counts} {s
     split : left moves arrivals n i ≡ move i ∷ next
     split = from-next move h
 
-    stepping : goOn (M T) (known T) 1024 (suc i) (stepped (M T) (known T) 1024 (g .host) (move i)) (ranFrom T (suc (suc i)) next)
-        ≡ whole ps moves arrivals n
-    stepping = sym (ap (λ ms. ranFrom T (suc i) ms (g .host)) split) ∙ g .goes
+    stepping :
+        goOn (M table) (known table) 1024 (suc i) (stepped (M table) (known table) 1024 (g .host) (move i)) (ranFrom table (suc (suc i)) next)
+        ≡ whole table moves arrivals n
+    stepping = sym (ap (λ ms. ranFrom table (suc i) ms (g .host)) split) ∙ g .goes
 
-    pub breaks : stepped (M T) (known T) 1024 (g .host) (move i) ≡ broken → whole ps moves arrivals n ≡ fault 14 (i + 1)
+    pub breaks : stepped (M table) (known table) 1024 (g .host) (move i) ≡ broken → whole table moves arrivals n ≡ fault 14 (i + 1)
     breaks e =
-        sym stepping ∙ ap (λ w. goOn (M T) (known T) 1024 (suc i) w (ranFrom T (suc (suc i)) next)) e
+        sym stepping ∙ ap (λ w. goOn (M table) (known table) 1024 (suc i) w (ranFrom table (suc (suc i)) next)) e
         ∙ ap (fault 14) (sym (add-one i))
 
-    pub goes-next : (h′ : Host (M T)) → stepped (M T) (known T) 1024 (g .host) (move i) ≡ on h′ →
-        ranFrom T (suc (i + 1)) next h′ ≡ whole ps moves arrivals n
+    pub goes-next : (h′ : Host (M table)) → stepped (M table) (known table) 1024 (g .host) (move i) ≡ on h′ →
+        ranFrom table (suc (i + 1)) next h′ ≡ whole table moves arrivals n
     goes-next h′ e =
-        ap (λ j. ranFrom T (suc j) next h′) (add-one i)
-        ∙ sym (ap (λ w. goOn (M T) (known T) 1024 (suc i) w (ranFrom T (suc (suc i)) next)) e) ∙ stepping
+        ap (λ j. ranFrom table (suc j) next h′) (add-one i)
+        ∙ sym (ap (λ w. goOn (M table) (known table) 1024 (suc i) w (ranFrom table (suc (suc i)) next)) e) ∙ stepping
 
     pub all-rids : All RidIn (move i ∷ next)
     all-rids = subst (All RidIn) split (g .rids)

@@ -11,7 +11,6 @@ use Rattle.text.specs.Rows.{row}
 use Rattle.text.proofs.RowLaws.{row-at}
 use Rattle.host.specs.Requests.{isOpenIn, progressIn, localsIn, standingRow, standingIn}
 use Rattle.host.specs.declared.requests.Progress.{Progress}
-use Rattle.host.specs.declared.requests.Standing.{Standing}
 use Rattle.host.specs.declared.requests.Standing.the-variants.{Missing, Idle, Open}
 
 module _ (states : List ℕ) (s : ℕ) where
@@ -67,9 +66,8 @@ module _ (states : List ℕ) (slot : ℕ) where
     found =
         ap (standingIn states) (one-there h) ∙ rw (lt-ltb (slot - 1) 64 (omega (arith, h))) refl
 
-    pub open-there : (x : Progress) → isOpenIn (row 12 states (slot - 1)) ≡ true → x ≡ progressIn (row 12 states (slot - 1)) →
-        Open (slot - 1) (x .prog) ≡ standingIn states slot
-    open-there x e d = sym (found ∙ rw e (ap (λ x. Open (slot - 1) (x .prog)) (sym d)))
+    pub open-there : isOpenIn (row 12 states (slot - 1)) ≡ true → Open (slot - 1) ≡ standingIn states slot
+    open-there e = sym (found ∙ rw e refl)
 
     pub shut-there : isOpenIn (row 12 states (slot - 1)) ≡ false → Idle ≡ standingIn states slot
     shut-there e = sym (found ∙ rw e refl)

@@ -12,15 +12,12 @@ use lib.ListN.{length, getD}
 use borrow.Author.Tests.{lt-ltb, le-ltb, ltb-true, ltb-false}
 use Rattle.lines.specs.Place.{cells}
 use Rattle.lines.proofs.FieldLaws.{cells-all}
-use Rattle.text.specs.Held.{noProgram, programAt, ofAt, entryAt, moveAt, tableIn}
+use Rattle.text.specs.Held.{ofAt, entryAt, moveAt}
 use Rattle.text.specs.Rows.{row, withRow}
-use Rattle.text.specs.declared.programs.Instr.{Instr}
 use Rattle.text.specs.declared.programs.Program.{Program}
-use Rattle.text.specs.declared.programs.Programs.{Programs}
 use Rattle.text.specs.declared.report.Op.{Op}
 use Rattle.text.specs.declared.schedule.Move.the-variants.{Turn}
 use Rattle.text.specs.declared.trace.Event.the-variants.{Response}
-use Rattle.text.proofs.RowLaws.{firsts-length}
 use Rattle.ordering.specs.Lists.{All}
 use Rattle.ordering.specs.Maps.{upd}
 use Rattle.ordering.proofs.Basics.{clash, byBool}
@@ -34,18 +31,17 @@ use Rattle.machine.specs.Index.{stored, performed, performOf}
 use Rattle.machine.specs.Instance.{Process, nextOf, intoOf, behindAll, codeAt, gone, known}
 use Rattle.machine.specs.Logs.{ops}
 use Rattle.machine.specs.Objects.{atStart}
-use Rattle.machine.specs.Processes.{Advanced, limit, instrAt, advanceOf, resumed}
+use Rattle.machine.specs.Processes.{Advanced, limit, advanceOf, resumed}
 use Rattle.machine.specs.declared.processes.Next.the-variants.{Operation, Reply, Cut}
 use Rattle.machine.specs.declared.processes.Next.{Next}
 use Rattle.machine.proofs.Bounds.{within}
 use Rattle.machine.proofs.Locals.{go-length, resumed-length}
-use Rattle.machine.proofs.Tables.{same-code, go-same}
 use Rattle.host.specs.Moves.{progress, counts, lineOf, joined, ReplyIs, NextIs, wentOn, TurnIs}
 use Rattle.host.specs.Requests.{stateNumbers, progressIn, localsIn, standingIn}
-use Rattle.host.specs.Runs.{going, over, seenRow, seenSlot, M, seen, LinesIs, RidIn, ranFrom}
+use Rattle.host.specs.Runs.{going, seenRow, seenSlot, M, seen, LinesIs, RidIn, ranFrom}
+use Rattle.host.specs.Tables.{Table, codeIn}
 use Rattle.host.specs.declared.requests.Progress.{Progress}
 use Rattle.host.specs.declared.requests.Standing.the-variants.{Missing, Idle, Open}
-use Rattle.host.specs.declared.requests.Standing.{Standing}
 use Rattle.host.specs.declared.steps.Counts.{Counts}
 use Rattle.host.specs.declared.steps.Step.the-variants.{Broken, On}
 use Rattle.host.specs.declared.steps.Step.{Step}
@@ -79,30 +75,23 @@ use Rattle.host.proofs.Slots.{
   goes-on,
 }
 
--- the same position, count and next action, and the same locals
-module _ (table : List Program) (code : List Instr) (v path : List ℕ) (prog : ℕ) where
-  -- a process that stands in row v goes on as the row does
-  pub gone-as : (p : Process) → p .prog ≡ prog → p .locals ≡ localsIn v → p .at ≡ progressIn v .at → p .done ≡ progressIn v .done →
-      ((at : ℕ) → instrAt (codeAt table prog) at ≡ instrAt code at) → gone limit table p ≡ behindAll (p .path) (wentOn code v)
-  gone-as p q l a d same =
-      let e : advanceOf limit (codeAt table (p .prog)) (p .locals) (p .at) (p .done)
-      ≡ advanceOf limit (codeAt table prog) (localsIn v) (progressIn v .at) (progressIn v .done) =
-      λ i. advanceOf limit (codeAt table (q i)) (l i) (a i) (d i) in
-      ap (behindAll (p .path)) (e ∙ go-same (codeAt table prog) code same (limit - progressIn v .done) (localsIn v) (progressIn v .at)
-      (progressIn v .done))
+-- a process that stands in row v goes on as the row does
+gone-as : (U : List Program) (table : Table) (v : List ℕ) (p : Process) → p .prog ≡ progressIn v .prog → p .locals ≡ localsIn v →
+    p .at ≡ progressIn v .at → p .done ≡ progressIn v .done → codeAt U (progressIn v .prog) ≡ codeIn table (progressIn v .prog) →
+    gone limit U p ≡ behindAll (p .path) (wentOn table v)
+gone-as U table v p q l a d same =
+    let e : codeAt U (p .prog) ≡ codeIn table (progressIn v .prog) = ap (codeAt U) q ∙ same in
+    λ i. behindAll (p .path) (advanceOf limit (e i) (l i) (a i) (d i))
 
-module _ {ps : Programs} {moves arrivals : List ℕ} {n i : ℕ} {c : Counts} {slots states ofs events logs registers heads befores : List ℕ}
-    (g : Running ps moves arrivals n i c slots states ofs events logs registers heads befores) (h : i < n)
+module _ {U : List Program} {moves arrivals : List ℕ} {n i : ℕ} {c : Counts} {slots states ofs events logs registers heads befores : List ℕ}
+    (g : Running U moves arrivals n i c slots states ofs events logs registers heads befores) (h : i < n)
     {r : ℕ} (e : Turn r ≡ moveAt moves arrivals i) where
-  abbrev U : List Program
-  U = tableIn ps
-
   abbrev h₀ : Host (M U)
   h₀ = g .host
 
   abbrev Next-running : Counts → (states ofs events logs registers heads befores : List ℕ) → Type 0
   Next-running d states ofs events logs registers heads befores =
-      Running ps moves arrivals n (i + 1) d slots states ofs events logs registers heads befores
+      Running U moves arrivals n (i + 1) d slots states ofs events logs registers heads befores
 
   rid : r < 65536
   rid = turn-below moves arrivals i r (sym e)
@@ -118,11 +107,11 @@ module _ {ps : Programs} {moves arrivals : List ℕ} {n i : ℕ} {c : Counts} {s
       stepped (M U) (known U) 1024 h₀ (moveAt moves arrivals i) ≡ commit (M U) (known U) 1024 h₀ (turnOf (M U) (h₀ .state) r f)
   step-at f d = step-is ∙ ap (λ f. commit (M U) (known U) 1024 h₀ (turnOf (M U) (h₀ .state) r f)) d
 
-  breaks-here : stepped (M U) (known U) 1024 h₀ (moveAt moves arrivals i) ≡ broken → whole ps moves arrivals n ≡ fault 14 (i + 1)
+  breaks-here : stepped (M U) (known U) 1024 h₀ (moveAt moves arrivals i) ≡ broken → whole U moves arrivals n ≡ fault 14 (i + 1)
   breaks-here = breaks g h
 
   next-here : (h′ : Host (M U)) → stepped (M U) (known U) 1024 h₀ (moveAt moves arrivals i) ≡ on h′ →
-      ranFrom U (suc (i + 1)) (left moves arrivals n (i + 1)) h′ ≡ whole ps moves arrivals n
+      ranFrom U (suc (i + 1)) (left moves arrivals n (i + 1)) h′ ≡ whole U moves arrivals n
   next-here = goes-next g h
 
   arrivals-left : c .requests + arrivalsIn (left moves arrivals n (i + 1)) ≤ 64
@@ -134,9 +123,9 @@ module _ {ps : Programs} {moves arrivals : List ℕ} {n i : ℕ} {c : Counts} {s
   rids-left = all-rids g h .1
 
   -- ── no such request ──
-  pub turn-missing : Missing ≡ standingIn states (getD slots (r % 65536) 0) → whole ps moves arrivals n ≡ fault 14 (i + 1)
+  pub turn-missing : Missing ≡ standingIn states (getD slots (r % 65536) 0) → whole U moves arrivals n ≡ fault 14 (i + 1)
   turn-missing d =
-      let none-there : getD slots r 0 ≡ 0 → whole ps moves arrivals n ≡ fault 14 (i + 1) =
+      let none-there : getD slots r 0 ≡ 0 → whole U moves arrivals n ≡ fault 14 (i + 1) =
       λ z. breaks-here (step-at absent (absent-seen U (h₀ .state .phase r) (g .requests .phases r rid ∙ ap (seenSlot states ofs) z))) in
       ⊎-elim
       (λ z. none-there (sym slot-is ∙ z))
@@ -156,8 +145,6 @@ module _ {ps : Programs} {moves arrivals : List ℕ} {n i : ℕ} {c : Counts} {s
         within = omega arith;
         scheduled = g .scheduled;
         movesRoom = g .movesRoom;
-        few = g .few;
-        bounded = g .bounded;
         host = h₀;
         goes = next-here h₀ (step-at (closed (w .0) (ofAt ofs (f .0) .count)) (w .1));
         rids = rids-left;
@@ -170,15 +157,15 @@ module _ {ps : Programs} {moves arrivals : List ℕ} {n i : ℕ} {c : Counts} {s
       }
 
   -- ── an open one, in slot s ──
-  module _ {s prog : ℕ} (d : Open s prog ≡ standingIn states (getD slots (r % 65536) 0)) where
+  module _ {s : ℕ} (d : Open s ≡ standingIn states (getD slots (r % 65536) 0)) where
     abbrev v : List ℕ
     v = row 12 states s
 
     abbrev k : ℕ
     k = ofAt ofs s .count
 
-    found : Finds states (Open s prog) (getD slots (r % 65536) 0)
-    found = finds states (getD slots (r % 65536) 0) (Open s prog) d
+    found : Finds states (Open s) (getD slots (r % 65536) 0)
+    found = finds states (getD slots (r % 65536) 0) (Open s) d
 
     slot : getD slots r 0 ≡ suc s
     slot = sym slot-is ∙ found .0
@@ -191,10 +178,6 @@ module _ {ps : Programs} {moves arrivals : List ℕ} {n i : ℕ} {c : Counts} {s
 
     abbrev p : Process
     p = is .process
-
-    known-program : prog < ps .n
-    known-program =
-        omega (arith, found .3, g .requests .rows s (owned .0) .program, firsts-length (programAt (ps .table)) (ps .n))
 
     -- one response more would still be in order
     pub turn-room : (s < 64) × (c .events < 128) × (k ≤ c .operations)
@@ -210,18 +193,20 @@ module _ {ps : Programs} {moves arrivals : List ℕ} {n i : ℕ} {c : Counts} {s
         let y = events-are g in
         (found .1, omega (arith, few, a, b, x, y, g .requests .few), g .requests .rows s (owned .0) .few)
 
-    module _ (code : List Instr) (same : (at : ℕ) → instrAt (codeAt U prog) at ≡ instrAt code at) where
+    -- the program of the request, as the table has it
+    module _ (table : Table) (same : codeAt U (progressIn v .prog) ≡ codeIn table (progressIn v .prog)) where
       abbrev went : Advanced
-      went = wentOn code v
+      went = wentOn table v
 
       goes : gone limit U p ≡ behindAll (p .path) went
-      goes = gone-as U code v (p .path) prog p (is .prog ∙ sym (found .3)) (is .locals) (is .at) (is .done) same
+      goes = gone-as U table v p (is .prog) (is .locals) (is .at) (is .done) same
 
       advances : (x : Next) → went .stop .next ≡ x → M U .advance p ≡ nextOf x
       advances x z = ap (λ a. nextOf (a .stop .next)) goes ∙ ap nextOf z
 
       eight : length (went .locals) ≡ 8
-      eight = go-length (limit - progressIn v .done) code (localsIn v) (progressIn v .at) (progressIn v .done)
+      eight =
+          go-length (limit - progressIn v .done) (codeIn table (progressIn v .prog)) (localsIn v) (progressIn v .at) (progressIn v .done)
 
       abbrev now : Progress
       now = progress (progressIn v .prog) (went .stop .at) (went .stop .done)
@@ -254,8 +239,6 @@ module _ {ps : Programs} {moves arrivals : List ℕ} {n i : ℕ} {c : Counts} {s
               within = omega arith;
               scheduled = g .scheduled;
               movesRoom = g .movesRoom;
-              few = g .few;
-              bounded = g .bounded;
               host = after;
               goes = next-here after reply-steps;
               rids = rids-left;
@@ -297,7 +280,7 @@ module _ {ps : Programs} {moves arrivals : List ℕ} {n i : ℕ} {c : Counts} {s
         advances-to : M U .advance p ≡ op o
         advances-to = advances (Operation o into) z
 
-        operation-full : 1024 ≤ c .operations → whole ps moves arrivals n ≡ fault 14 (i + 1)
+        operation-full : 1024 ≤ c .operations → whole U moves arrivals n ≡ fault 14 (i + 1)
         operation-full f =
             breaks-here (step-at (opened p k) (is .phase)
             ∙ rw (advances-to, le-ltb (h₀ .operations) 1024 (omega (arith, f, g .objects .counted))) refl)
@@ -365,8 +348,6 @@ module _ {ps : Programs} {moves arrivals : List ℕ} {n i : ℕ} {c : Counts} {s
                 within = omega arith;
                 scheduled = g .scheduled;
                 movesRoom = g .movesRoom;
-                few = g .few;
-                bounded = g .bounded;
                 host = worked;
                 goes = next-here worked operation-steps;
                 rids = rids-left;
@@ -399,7 +380,7 @@ module _ {ps : Programs} {moves arrivals : List ℕ} {n i : ℕ} {c : Counts} {s
             NextIs y c s r now (went .locals) states ofs events logs registers heads befores
             states′ ofs′ events′ logs′ registers′ heads′ befores′ x
 
-        next-breaks : x ≡ Broken → (y : Next) → went .stop .next ≡ y → Comes y → whole ps moves arrivals n ≡ fault 14 (i + 1)
+        next-breaks : x ≡ Broken → (y : Next) → went .stop .next ≡ y → Comes y → whole U moves arrivals n ≡ fault 14 (i + 1)
         next-breaks b (Operation o into) z f =
             byBool (ltb (c .operations) 1024)
             (λ t.
@@ -428,22 +409,17 @@ module _ {ps : Programs} {moves arrivals : List ℕ} {n i : ℕ} {c : Counts} {s
             reply-next 0 value (advances (Reply value) z) states′ ofs′ events′ logs′ registers′ heads′ befores′ x f d b
         next-on d b Cut z f = reply-next 1 0 (advances Cut z) states′ ofs′ events′ logs′ registers′ heads′ befores′ x f d b
 
-    module _ {q : Program} (at : q ≡ getD (ps .table) (prog % 16) noProgram)
+    module _ {table : Table} (held : (prog : ℕ) → prog < length U → codeAt U prog ≡ codeIn table prog)
         {states′ ofs′ events′ logs′ registers′ heads′ befores′ : List ℕ} {x : Step}
-        (f : TurnIs (q .code) c s r states ofs events logs registers heads befores
+        (f : TurnIs table c s r states ofs events logs registers heads befores
         states′ ofs′ events′ logs′ registers′ heads′ befores′ x) where
-      same : (at : ℕ) → instrAt (codeAt U prog) at ≡ instrAt (q .code) at
-      same place =
-          let few : prog % 16 ≡ prog = mod-eq-of-lt (omega (arith, known-program, g .few)) in
-          sym (ap (λ p. instrAt (p .code) place) (at ∙ ap (λ k. getD (ps .table) k noProgram) few)
-          ∙ same-code (ps .table) (ps .n) prog known-program (g .bounded prog known-program) place)
+      same : codeAt U (progressIn v .prog) ≡ codeIn table (progressIn v .prog)
+      same = held (progressIn v .prog) (g .requests .rows s (owned .0) .program)
 
-      pub turn-breaks : x ≡ Broken → whole ps moves arrivals n ≡ fault 14 (i + 1)
+      pub turn-breaks : x ≡ Broken → whole U moves arrivals n ≡ fault 14 (i + 1)
       turn-breaks b =
-          next-breaks (q .code) same states′ ofs′ events′ logs′ registers′ heads′ befores′ x b
-          (wentOn (q .code) v .stop .next) refl (f .next)
+          next-breaks table same states′ ofs′ events′ logs′ registers′ heads′ befores′ x b (wentOn table v .stop .next) refl (f .next)
 
       pub turn-on : (d : Counts) → x ≡ On d → Next-running d states′ ofs′ events′ logs′ registers′ heads′ befores′
       turn-on d b =
-          next-on (q .code) same states′ ofs′ events′ logs′ registers′ heads′ befores′ x d b
-          (wentOn (q .code) v .stop .next) refl (f .next)
+          next-on table same states′ ofs′ events′ logs′ registers′ heads′ befores′ x d b (wentOn table v .stop .next) refl (f .next)

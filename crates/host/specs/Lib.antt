@@ -5,5 +5,6 @@ pub mod Printed
 -- What private functions promise
 pub mod Steps
 pub mod Requests
+pub mod Tables
 pub mod Moves
 pub mod Runs

@@ -7,15 +7,15 @@ use Rattle.lines.specs.Place.{cells}
 use Rattle.text.specs.Held.{ofAt, entryAt}
 use Rattle.text.specs.Report.{entryNumbers}
 use Rattle.text.specs.Rows.{row, withRow}
-use Rattle.text.specs.declared.programs.Instr.{Instr}
 use Rattle.text.specs.declared.report.Entry.{Entry}
 use Rattle.text.specs.declared.report.Op.{Op}
 use Rattle.machine.specs.Index.{stored, performed, performOf}
 use Rattle.machine.specs.Logs.{ops}
-use Rattle.machine.specs.Processes.{Advanced, firstLocals, limit, advanceOf, resumed}
+use Rattle.machine.specs.Processes.{Advanced, advanced, firstLocals, limit, advanceOf, resumed}
 use Rattle.machine.specs.declared.processes.Next.{Next}
 use Rattle.machine.specs.declared.processes.Next.the-variants.{Operation, Reply, Cut}
 use Rattle.host.specs.Requests.{stateNumbers, progressIn, localsIn}
+use Rattle.host.specs.Tables.{Table, codeIn}
 use Rattle.host.specs.declared.requests.Progress.{Progress}
 use Rattle.host.specs.declared.steps.Counts.{Counts}
 use Rattle.host.specs.declared.steps.Step.{Step}
@@ -100,14 +100,19 @@ NextIs (Reply v) c s rid x l states ofs events logs rs hs bs states′ ofs′ ev
 NextIs Cut c s rid x l states ofs events logs rs hs bs states′ ofs′ events′ logs′ rs′ hs′ bs′ r =
     ReplyIs c s rid x l 1 0 states ofs events logs rs hs bs states′ ofs′ events′ logs′ rs′ hs′ bs′ r
 
--- the request in row v, gone on
-abbrev pub wentOn : List Instr → List ℕ → Advanced
-wentOn code v = advanceOf limit code (localsIn v) (progressIn v .at) (progressIn v .done)
+-- a request gone on, without its path, which the host does not keep
+abbrev pub pathless : Advanced → Advanced
+pathless r = advanced (r .locals) (r .stop) []
 
-pub record TurnIs (code : List Instr) (c : Counts) (s rid : ℕ)
+-- the request in row v, gone on
+abbrev pub wentOn : Table → List ℕ → Advanced
+wentOn table v = advanceOf limit (codeIn table (progressIn v .prog)) (localsIn v) (progressIn v .at) (progressIn v .done)
+
+pub record TurnIs (table : Table) (c : Counts) (s rid : ℕ)
     (states ofs events logs registers heads befores states′ ofs′ events′ logs′ registers′ heads′ befores′ : List ℕ)
     (r : Step) : Type 0 where
-  pub next : NextIs (wentOn code (row 12 states s) .stop .next) c s rid
-      (progress (progressIn (row 12 states s) .prog) (wentOn code (row 12 states s) .stop .at) (wentOn code (row 12 states s) .stop .done))
-      (wentOn code (row 12 states s) .locals)
+  pub next : NextIs (wentOn table (row 12 states s) .stop .next) c s rid
+      (progress (progressIn (row 12 states s) .prog)
+      (wentOn table (row 12 states s) .stop .at) (wentOn table (row 12 states s) .stop .done))
+      (wentOn table (row 12 states s) .locals)
       states ofs events logs registers heads befores states′ ofs′ events′ logs′ registers′ heads′ befores′ r

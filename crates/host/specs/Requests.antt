@@ -25,7 +25,7 @@ localsIn v =
 
 -- what a turn finds in a slot that counts from 1
 abbrev pub standingRow : (s : ℕ) → List ℕ → Standing
-standingRow s v = cond (isOpenIn v) (Open s (getD v 1 0)) Idle
+standingRow s v = cond (isOpenIn v) (Open s) Idle
 
 unfoldable pub standingIn : (states : List ℕ) → ℕ → Standing
 standingIn states zero = Missing
@@ -34,4 +34,4 @@ standingIn states (suc s) = cond (ltb s 64) (standingRow s (row 12 states s)) Mi
 abbrev pub waitsIn : Standing → Bool
 waitsIn Missing = false
 waitsIn Idle = false
-waitsIn (Open s prog) = true
+waitsIn (Open s) = true

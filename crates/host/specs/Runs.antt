@@ -5,10 +5,9 @@ use mathlib.Core.List.{List, [], _∷_}
 use mathlib.Core.Path.{_≡_}
 use lib.ListN.{length, getD, replicate}
 use Rattle.text.specs.Formats.{mostEntries}
-use Rattle.text.specs.Held.{noProgram, Bounded, eventAt, ofAt, moveAt, tableIn}
+use Rattle.text.specs.Held.{eventAt, ofAt, moveAt}
 use Rattle.text.specs.Rows.{row, firsts}
 use Rattle.text.specs.declared.programs.Program.{Program}
-use Rattle.text.specs.declared.programs.Programs.{Programs}
 use Rattle.text.specs.declared.report.Entry.{Entry}
 use Rattle.text.specs.declared.schedule.Move.the-variants.{Arrive, Turn}
 use Rattle.text.specs.declared.schedule.Move.{Move}
@@ -112,18 +111,13 @@ ran table ms = ranFrom table 1 ms (empty (M table) atStart)
 abbrev pub recordedMoves : List Program → List Move → (roomForTrace roomForReport : ℕ) → Result Texts
 recordedMoves table ms m n = andThen (runOf table ms) (λ b. fitted m n (textsOf b))
 
-module _ (ps : Programs) (moves arrivals : List ℕ) (n : ℕ) where
-  abbrev moved : List Move
-  moved = movesIn moves arrivals n
-
-  -- what is known of programs and a schedule that were read
+module _ (moves arrivals : List ℕ) (n : ℕ) where
+  -- what is known of a schedule that was read
   pub record Scheduled : Type 0 where
-    pub few : ps .n ≤ 16
-    pub bounded : (i : ℕ) → i < ps .n → Bounded (getD (ps .table) i noProgram)
     pub lines : n ≤ 9362
     pub movesRoom : length moves ≡ 9362
-    pub rids : All RidIn moved
-    pub arrivalsFew : arrivalsIn moved ≤ 64
+    pub rids : All RidIn (movesIn moves arrivals n)
+    pub arrivalsFew : arrivalsIn (movesIn moves arrivals n) ≤ 64
 
   -- with arrays for a run
   pub record Ready (slots states ofs events logs : List ℕ) : Type 0 where
@@ -134,14 +128,15 @@ module _ (ps : Programs) (moves arrivals : List ℕ) (n : ℕ) where
     pub eventsRoom : length events ≡ 640
     pub logsRoom : length logs ≡ 6144
 
+module _ (table : List Program) (moves arrivals : List ℕ) (n : ℕ) where
   -- the arrays hold the state of the host behind the whole schedule
   pub record Finished (slots states ofs events logs : List ℕ) (c : Counts) : Type 0 where
-    pub host : Host (M (tableIn ps))
-    pub made-it : ran (tableIn ps) moved ≡ made host
-    pub requests : RequestsIs (tableIn ps) slots states ofs (c .requests) (c .operations) (host .state .phase) (host .trace)
+    pub host : Host (M table)
+    pub made-it : ran table (movesIn moves arrivals n) ≡ made host
+    pub requests : RequestsIs table slots states ofs (c .requests) (c .operations) (host .state .phase) (host .trace)
     pub events-held : EventsIs events (c .events) (host .trace)
     pub lines : LinesIs logs (c .operations) (host .state .logs)
 
   unfoldable pub RunIs : (slots states ofs events logs : List ℕ) → Run → Type 0
-  RunIs slots states ofs events logs (Breaks line) = ran (tableIn ps) moved ≡ fault 14 line
+  RunIs slots states ofs events logs (Breaks line) = ran table (movesIn moves arrivals n) ≡ fault 14 line
   RunIs slots states ofs events logs (Ends c) = Finished slots states ofs events logs c

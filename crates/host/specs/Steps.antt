@@ -7,12 +7,9 @@ use Rattle.text.specs.Held.{eventAt, entryAt, reportOf}
 use Rattle.text.specs.Report.{reportText}
 use Rattle.text.specs.Rows.{firsts}
 use Rattle.text.specs.Trace.{traceText}
-use Rattle.text.specs.declared.programs.Instr.{Instr}
 use Rattle.text.specs.declared.report.Entry.{Entry}
 use Rattle.model.specs.Batch.{logOf}
 use Rattle.model.specs.Host.{logsFrom}
-use Rattle.machine.specs.Processes.{limit, advanceOf}
-use Rattle.machine.specs.declared.processes.Stop.{Stop}
 use Rattle.host.specs.Recorded.{Texts}
 
 -- the texts of n events, m `of` lines and k `log` lines in arrays

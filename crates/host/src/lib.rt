@@ -2,6 +2,7 @@
 mod logs;
 mod outputs;
 mod printing;
+mod programs;
 mod records;
 mod requests;
 mod runs;

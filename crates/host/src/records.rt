@@ -3,34 +3,35 @@ use crate::Recorded;
 use crate::logs::by_object;
 use crate::outputs::refused;
 use crate::outputs::write_texts;
+use crate::programs::lay_out;
 use crate::runs::Run;
 use crate::runs::row_15;
 use crate::runs::run_moves;
 use machine::Ruling;
 use machine::check_rules;
 use text::Lines;
-use text::Programs;
 use text::read_programs;
 use text::read_schedule;
 ghost use mathlib.Core.Path.{_≡_};
 ghost use lib.ListN.{length};
-ghost use Rattle.text.specs.Held.{tableIn};
 ghost use Rattle.host.specs.Accepted.{Accepted};
 ghost use Rattle.host.specs.Recorded.{recordOf, RecordIs};
+ghost use Rattle.host.specs.Tables.{programsOf};
 ghost use Rattle.host.specs.Runs.{movesIn, Scheduled, recordedMoves};
 
-// Rows 14 to 16, of programs and a schedule of n lines that were read.
+// Rows 14 to 16, of `programs` programs and a schedule of n lines that were read.
 fn record_moves(
-    ps: Programs,
+    table: &[[[u64; 4]; 64]; 16],
+    programs: usize,
     moves: &[u32; 9362],
     arrivals: &[u64; 256],
     n: usize,
     trace: &mut [u8],
     report: &mut [u8],
 ) -> Recorded
-    requires { ⌜ Scheduled ps (now moves) (now arrivals) n ⌝ }
+    requires { ⌜ Scheduled (now moves) (now arrivals) n ⌝ }
     ensures { λ r. ⌜ RecordIs
-        (recordedMoves (tableIn ps) (movesIn (now (moves .entry)) (now (arrivals .entry)) n)
+        (recordedMoves (programsOf (now (table .entry)) programs) (movesIn (now (moves .entry)) (now (arrivals .entry)) n)
         (length (now (trace .entry))) (length (now (report .entry))))
         (now (trace .entry)) (now (report .entry)) (now (trace .exit)) (now (report .exit)) r ⌝ }
 {
@@ -40,7 +41,8 @@ fn record_moves(
     let mut events = [0u64; 640];
     let mut logs = [0u64; 6144];
     match run_moves(
-        ps,
+        table,
+        programs,
         moves,
         arrivals,
         n,
@@ -101,7 +103,9 @@ pub fn record(programs: &[u8], schedule: &[u8], trace: &mut [u8], report: &mut [
             return refused(13, line);
         }
         Lines::Readable(n) => {
-            return record_moves(ps, &moves, &arrivals, n, trace, report);
+            let mut table = [[[0u64; 4]; 64]; 16];
+            lay_out(ps, &mut table);
+            return record_moves(&table, ps.n, &moves, &arrivals, n, trace, report);
         }
     }
 }

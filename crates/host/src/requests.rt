@@ -15,11 +15,11 @@ pub struct Progress {
     pub done: usize,
 }
 
-// What a turn finds: no such request, one that has its response, or an open one with its slot (from 0) and its program.
+// What a turn finds: no such request, one that has its response, or an open one with its slot (from 0).
 pub enum Standing {
     Missing,
     Idle,
-    Open(usize, u64),
+    Open(usize),
 }
 
 fn wide(x: u8) -> usize
@@ -121,8 +121,7 @@ pub(crate) fn standing_of(slots: &[u8; 65536], states: &[u64; 768], rid: u64) ->
     }
     let s = slot - 1;
     if is_open(states, s) {
-        let x = progress_at(states, s);
-        return Standing::Open(s, x.prog);
+        return Standing::Open(s);
     }
     Standing::Idle
 }

@@ -7,7 +7,6 @@ use crate::steps::arrive;
 use crate::steps::turn;
 use machine::Ruling;
 use text::Move;
-use text::Programs;
 use text::move_at;
 ghost use mathlib.Core.Path.{_≡_};
 ghost use mathlib.Core.List.{[]};
@@ -18,6 +17,7 @@ ghost use Rattle.text.specs.Rows.{firsts};
 ghost use Rattle.model.specs.Checks.{firstBad};
 ghost use Rattle.machine.specs.Rules.{brokenLine};
 ghost use Rattle.host.specs.Requests.{waitsIn, standingIn};
+ghost use Rattle.host.specs.Tables.{programsOf};
 ghost use Rattle.host.specs.Runs.{Ready, RunIs, leftOpen};
 
 // A schedule that was run: the line that breaks row 14, or what there is at the end.
@@ -26,9 +26,10 @@ pub enum Run {
     Ends(Counts),
 }
 
-// The run of the first n lines of a schedule. The arrays are all 0 before it.
+// The run of the first n lines of a schedule, where `programs` programs are known. The arrays are all 0 before it.
 pub(crate) fn run_moves(
-    ps: Programs,
+    table: &[[[u64; 4]; 64]; 16],
+    programs: usize,
     moves: &[u32; 9362],
     arrivals: &[u64; 256],
     n: usize,
@@ -38,8 +39,8 @@ pub(crate) fn run_moves(
     events: &mut [u64; 640],
     logs: &mut [u64; 6144],
 ) -> Run
-    requires { ⌜ Ready ps (now moves) (now arrivals) n (now slots) (now states) (now ofs) (now events) (now logs) ⌝ }
-    ensures { λ r. ⌜ RunIs ps (now (moves .entry)) (now (arrivals .entry)) n
+    requires { ⌜ Ready (now moves) (now arrivals) n (now slots) (now states) (now ofs) (now events) (now logs) ⌝ }
+    ensures { λ r. ⌜ RunIs (programsOf (now (table .entry)) programs) (now (moves .entry)) (now (arrivals .entry)) n
         (now (slots .exit)) (now (states .exit)) (now (ofs .exit)) (now (events .exit)) (now (logs .exit)) r ⌝ }
 {
     let mut registers = [0u64; 8];
@@ -54,7 +55,7 @@ pub(crate) fn run_moves(
     while i < n {
         match move_at(moves, arrivals, i) {
             Move::Arrive { rid, prog, a, b } => {
-                let Step::On(d) = arrive(ps.n, c, rid, prog, a, b, slots, states, ofs, events)
+                let Step::On(d) = arrive(programs, c, rid, prog, a, b, slots, states, ofs, events)
                 else {
                     return Run::Breaks(i + 1);
                 };
@@ -69,10 +70,9 @@ pub(crate) fn run_moves(
                     Standing::Idle => {
                         i += 1;
                     }
-                    Standing::Open(s, prog) => {
-                        let p = ps.table[(prog % 16) as usize];
+                    Standing::Open(s) => {
                         let Step::On(d) = turn(
-                            p,
+                            table,
                             c,
                             s,
                             rid,
@@ -103,7 +103,7 @@ fn waits(slots: &[u8; 65536], states: &[u64; 768], rid: u64) -> bool
     match standing_of(slots, states, rid) {
         Standing::Missing => false,
         Standing::Idle => false,
-        Standing::Open(_, _) => true,
+        Standing::Open(_) => true,
     }
 }
 

@@ -1,6 +1,7 @@
 // What one line of the schedule does to a run: an arrival opens a request; a turn takes one on to its next operation, or to its reply
 // or cut.
 use crate::logs::put_line;
+use crate::programs::instr_at;
 use crate::requests::Progress;
 use crate::requests::locals_at;
 use crate::requests::progress_at;
@@ -8,22 +9,25 @@ use crate::requests::put_of;
 use crate::requests::put_slot;
 use crate::requests::put_state;
 use crate::requests::slot_of;
+use machine::Act;
 use machine::LIMIT;
 use machine::Next;
-use machine::advance;
+use machine::Stop;
+use machine::carry_out;
 use machine::first_locals;
 use machine::perform;
 use machine::resume;
 use text::Entry;
 use text::Op;
-use text::Program;
 use text::of_at;
 ghost use mathlib.Core.Path.{_≡_};
 ghost use mathlib.Core.List.{[], _∷_};
 ghost use Prim.Native.Nat.{_<_, _≤_};
 ghost use Rattle.text.specs.Held.{ofAt};
 ghost use Rattle.text.specs.Rows.{withRow};
-ghost use Rattle.host.specs.Moves.{Arrived, Operated, Replied, ArriveIs, TurnIs};
+ghost use Rattle.machine.specs.Processes.{advanced, limit, advanceOf};
+ghost use Rattle.host.specs.Tables.{codeIn};
+ghost use Rattle.host.specs.Moves.{Arrived, Operated, Replied, ArriveIs, pathless, TurnIs};
 
 // How many requests have arrived, and how many events and log lines there are.
 pub struct Counts {
@@ -177,9 +181,47 @@ fn reply(
     }
 }
 
-// A turn of the open request in slot s, whose program is p. The host keeps no path, so what the machine marks of one is dropped.
+// A request of program prog goes on up to and including its next operation, or to its reply, or to its cut. The host keeps no path of it.
+fn advance(table: &[[[u64; 4]; 64]; 16], prog: u64, l: &mut [u64; 8], at: u64, done: usize) -> Stop
+    ensures { λ r. ⌜ advanced (now (l .exit)) r []
+        ≡ pathless (advanceOf limit (codeIn (now (table .entry)) prog) (now (l .entry)) at done) ⌝ }
+{
+    let mut at = at;
+    let mut done = done;
+    while done < LIMIT {
+        let i = instr_at(table, prog, at);
+        let next = at % 64 + 1;
+        done += 1;
+        match carry_out(l, i, next) {
+            Act::Goes(to) => {
+                at = to;
+            }
+            Act::Asks(o, into) => {
+                return Stop {
+                    at: next,
+                    done,
+                    next: Next::Operation(o, into),
+                };
+            }
+            Act::Replies(v) => {
+                return Stop {
+                    at: next,
+                    done,
+                    next: Next::Reply(v),
+                };
+            }
+        }
+    }
+    Stop {
+        at,
+        done,
+        next: Next::Cut,
+    }
+}
+
+// A turn of the open request in slot s.
 pub(crate) fn turn(
-    p: Program,
+    table: &[[[u64; 4]; 64]; 16],
     c: Counts,
     s: usize,
     rid: u64,
@@ -192,7 +234,7 @@ pub(crate) fn turn(
     befores: &mut [u16; 1024],
 ) -> Step
     requires { ⌜ (s < 64) × (c .events < 128) × (ofAt (now ofs) s .count ≤ c .operations) ⌝ }
-    ensures { λ r. ⌜ TurnIs (p .code) c s rid
+    ensures { λ r. ⌜ TurnIs (now (table .entry)) c s rid
         (now (states .entry)) (now (ofs .entry)) (now (events .entry)) (now (logs .entry))
         (now (registers .entry)) (now (heads .entry)) (now (befores .entry))
         (now (states .exit)) (now (ofs .exit)) (now (events .exit)) (now (logs .exit))
@@ -200,8 +242,7 @@ pub(crate) fn turn(
 {
     let was = progress_at(states, s);
     let mut l = locals_at(states, s);
-    let mut path = [0u8; 1];
-    let stop = advance(p, &mut l, was.at, was.done, &mut path, LIMIT);
+    let stop = advance(table, was.prog, &mut l, was.at, was.done);
     let x = Progress {
         prog: was.prog,
         at: stop.at,

@@ -1,6 +1,6 @@
 -- Laws of a number written in decimal.
 use Prim.Native.Nat.{ℕ, suc, zero, _+_, _*_, _^_, _/_, _%_, _<_, _≤_, pow·suc}
-use mathlib.Core.List.{List, [], _∷_, _++_}
+use mathlib.Core.List.{List, [], _∷_, _++_, append-assoc}
 use mathlib.Core.Bool.{Bool, true, false}
 use mathlib.Core.Path.{_≡_, refl, sym, _∙_, ap}
 use native.Mathlib.Omega.{arith}
@@ -47,6 +47,24 @@ decimal-more v h = ap length (decimal-big v h) ∙ length-append (decimal (v / 1
 
 pub decimal-one : (v : ℕ) → v < 10 → length (decimal v) ≡ 1
 decimal-one v h = ap length (decimal-small v h)
+
+-- two digits at once
+pub decimal-tens : (v : ℕ) → 10 ≤ v → v < 100 → decimal v ≡ (48 + v / 10) ∷ (48 + v % 10) ∷ []
+decimal-tens v h g = decimal-big v h ∙ ap (λ (t : List ℕ). t ++ (48 + v % 10) ∷ []) (decimal-small (v / 10) (omega arith))
+
+pub decimal-hundreds : (v : ℕ) → 100 ≤ v → decimal v ≡ decimal (v / 100) ++ (48 + v / 10 % 10) ∷ (48 + v % 10) ∷ []
+decimal-hundreds v h =
+    let e : v / 10 / 10 ≡ v / 100 = omega arith in
+    decimal-big v (omega arith)
+    ∙ ap (λ (t : List ℕ). t ++ (48 + v % 10) ∷ []) (decimal-big (v / 10) (omega arith))
+    ∙ append-assoc (decimal (v / 10 / 10)) _ _
+    ∙ ap (λ u. decimal u ++ (48 + v / 10 % 10) ∷ (48 + v % 10) ∷ []) e
+
+pub decimal-two : (v : ℕ) → 10 ≤ v → v < 100 → length (decimal v) ≡ 2
+decimal-two v h g = ap length (decimal-tens v h g)
+
+pub decimal-two-more : (v : ℕ) → 100 ≤ v → length (decimal v) ≡ length (decimal (v / 100)) + 2
+decimal-two-more v h = ap length (decimal-hundreds v h) ∙ length-append (decimal (v / 100)) _
 
 pub decimal-length : (k v : ℕ) → v < 10 * 10 ^ k → length (decimal v) ≤ k + 1
 decimal-length zero v h = omega (arith, decimal-one v (omega arith))

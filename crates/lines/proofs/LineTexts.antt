@@ -1,5 +1,5 @@
 -- Laws of a line as bytes.
-use Prim.Native.Nat.{ℕ, _+_, _-_, _<_, _≤_}
+use Prim.Native.Nat.{ℕ, zero, suc, _+_, _*_, _-_, _<_, _≤_}
 use mathlib.Core.List.{List, [], _∷_, _++_}
 use mathlib.Core.Bool.{Bool, true, false}
 use mathlib.Core.Path.{_≡_, refl, sym, _∙_, ap}
@@ -7,9 +7,12 @@ use native.Mathlib.Omega.{arith}
 use lib.ListN.{length, getD, take, drop, length-append, length-drop, drop-of-length-le, length-take}
 use lib.Seq.{length-take-le, getD-take, take-all}
 use lib.Dec.{ltb}
+use mir.Syntax.{w64}
+use mir.Val.{Fits}
 use borrow.Author.Tests.{lt-ltb, le-ltb, ltb-true, ltb-false}
 use Rattle.lines.specs.Decimal.{decimal}
 use Rattle.lines.specs.LineText.{separatorOf, numbersText, lineText}
+use Rattle.lines.proofs.Decimals.{decimal-20}
 use Rattle.lines.proofs.Writing.{drop-next}
 
 pub separator-comma : (i n : ℕ) → i < n → 44 ≡ separatorOf i n
@@ -40,6 +43,19 @@ numbers-next v n i h g =
 pub numbers-done : (v : List ℕ) (n i : ℕ) → n ≤ i → numbersText (drop i (take n v)) ≡ []
 unfolding numbersText
 numbers-done v n i h = rw (drop-of-length-le (take n v) {i = i} (omega (arith, length-take n v))) refl
+
+-- one number more, and what stands behind it
+pub numbers-more : (v : ℕ) (vs : List ℕ) → length (numbersText (v ∷ vs)) ≡ length (decimal v) + 1 + length (numbersText vs)
+unfolding numbersText
+numbers-more v vs = omega (arith, length-append (decimal v) (separatorOf 0 (length vs) ∷ numbersText vs))
+
+-- a number of 64 bits takes at most 20 bytes, and one more for what stands behind it
+pub numbers-most : (v : List ℕ) (n : ℕ) → ((i : ℕ) → Fits w64 (getD v i 0)) → length (numbersText (take n v)) ≤ 21 * n
+unfolding numbersText
+numbers-most v zero f = omega arith
+numbers-most [] (suc n) f = omega arith
+numbers-most (x ∷ v) (suc n) f =
+    omega (arith, numbers-more x (take n v), decimal-20 x (f 0 .fits), numbers-most v n (λ i. f (suc i)))
 
 -- past six places there is nothing more to take
 pub clamp : (v : List ℕ) (n : ℕ) → length v ≡ 6 → 6 < n → take 6 v ≡ take n v

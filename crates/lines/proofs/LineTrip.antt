@@ -5,7 +5,7 @@ use mathlib.Core.Bool.{Bool, true, false, _&&_}
 use mathlib.Core.Option.{Option, some, none}
 use mathlib.Core.Path.{_≡_, refl, sym, _∙_, ap}
 use native.Mathlib.Omega.{arith}
-use lib.ListN.{length, drop, length-append, drop-of-length-le}
+use lib.ListN.{length, drop, drop-of-length-le}
 use lib.Seq.{drop-append-seam}
 use lib.Dec.{ltb, leb, eqb}
 use borrow.Author.Tests.{ltb-true, ltb-false, leb-true, eq-eqb, ne-eqb}
@@ -13,14 +13,14 @@ use Rattle.lines.specs.Number.{numberOf}
 use Rattle.lines.specs.Decimal.{decimal}
 use Rattle.lines.specs.Parts.{parts, onto}
 use Rattle.lines.specs.Line.{Range, Format, InRange, InRanges, prefix, inFront, fieldOf, fieldsOf, lineOf}
-use Rattle.lines.specs.LineText.{separatorOf, numbersText, lineText, widest}
+use Rattle.lines.specs.LineText.{numbersText, lineText, widest}
 use Rattle.lines.specs.declared.numbers.Numeral.{Numeral}
 use Rattle.lines.specs.declared.numbers.Numeral.the-variants.{Value, Not}
 use Rattle.lines.proofs.Decimals.{decimal-small, decimal-big, decimal-mono}
 use Rattle.lines.proofs.NumberTrip.{number-back, number-fits}
 use Rattle.lines.proofs.Prefix.{prefix-self, unbroken, unbroken-head}
 use Rattle.lines.proofs.FieldLaws.{field-in, fields-value}
-use Rattle.lines.proofs.LineTexts.{separator-comma, separator-feed, line-text, line-length}
+use Rattle.lines.proofs.LineTexts.{separator-comma, separator-feed, numbers-more, line-text, line-length}
 
 -- no byte of s is c
 abbrev pub Free : ℕ → List ℕ → Type 0
@@ -202,12 +202,7 @@ numbers-bound [] [] h = omega arith
 numbers-bound [] (v ∷ vs) h = absurd h
 numbers-bound (r ∷ rs) [] h = absurd h
 numbers-bound (r ∷ rs) (v ∷ vs) h =
-    omega (
-      arith,
-      length-append (decimal v) (separatorOf 0 (length vs) ∷ numbersText vs),
-      decimal-mono (r .high) v (r .high) (omega arith) (h .0 .below),
-      numbers-bound rs vs (h .1),
-    )
+    omega (arith, numbers-more v vs, decimal-mono (r .high) v (r .high) (omega arith) (h .0 .below), numbers-bound rs vs (h .1))
 
 pub line-bound : (f : Format) (vs : List ℕ) → InRanges (f .ranges) vs →
     length (lineText (f .word) vs) ≤ length (f .word) + widest (f .ranges)

@@ -1,5 +1,5 @@
 -- Laws of a text in front of a buffer.
-use Prim.Native.Nat.{ℕ, _<_, _≤_}
+use Prim.Native.Nat.{ℕ, _+_, _<_, _≤_}
 use mathlib.Core.List.{List, [], _∷_, _++_, append-assoc}
 use mathlib.Core.Path.{_≡_, refl, sym, _∙_, ap}
 use native.Mathlib.Omega.{arith}
@@ -32,12 +32,12 @@ pub front-taken : (t o : List ℕ) → take (length t) (front t o) ≡ t
 unfolding front
 front-taken t o = take-append-seam t (drop (length t) o)
 
--- one byte more
-pub front-one : (b : ℕ) (o : List ℕ) → 0 < length o → set o 0 b ≡ front (b ∷ []) o
+-- no byte yet
+pub front-none : (o : List ℕ) → o ≡ front [] o
 unfolding front
-front-one b [] h = absurd (omega arith)
-front-one b (x ∷ o) h = refl
+front-none o = refl
 
+-- one byte more
 pub front-more : (t : List ℕ) (b : ℕ) (o : List ℕ) → length t < length o → set (front t o) (length t) b ≡ front (t ++ b ∷ []) o
 unfolding front
 front-more t b o h =
@@ -47,3 +47,13 @@ front-more t b o h =
 pub front-next : (t u : List ℕ) (b : ℕ) (o p : List ℕ) (n : ℕ) → u ≡ t ++ b ∷ [] → n ≡ length t → p ≡ front t o →
     length t < length o → set p n b ≡ front u o
 front-next t u b o p n e k q h = rw (e, k, q) (front-more t b o h)
+
+-- two bytes more
+pub front-two : (t u : List ℕ) (a b : ℕ) (o p : List ℕ) (n : ℕ) → u ≡ t ++ a ∷ b ∷ [] → n ≡ length t → p ≡ front t o →
+    length u ≤ length o → set (set p n a) (n + 1) b ≡ front u o
+front-two t u a b o p n e k q h =
+    let l = ap length e ∙ length-append t (a ∷ b ∷ []) in
+    let m = length-append t (a ∷ []) in
+    front-next (t ++ a ∷ []) u b o _ _ (e ∙ sym (append-assoc t (a ∷ []) (b ∷ []))) (omega (arith, k, m))
+    (front-next t _ a o p n refl k q (omega (arith, l)))
+    (omega (arith, l, m))

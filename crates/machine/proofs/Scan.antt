@@ -1,20 +1,20 @@
 -- Laws of the scan of the program rules: what one line does to it.
-use Prim.Native.Nat.{ℕ, zero, suc, _+_, _-_, _<_, _≤_}
-use mathlib.Core.Path.{_≡_, sym, ap, _∙_}
-use mathlib.Core.List.{List, [], _∷_, _++_}
+use Prim.Native.Nat.{ℕ, suc, _+_, _-_, _<_, _≤_}
+use mathlib.Core.Path.{_≡_, _∙_}
+use mathlib.Core.List.{List, _∷_}
 use mathlib.Core.Bool.{true, false, not, _&&_}
 use native.Mathlib.Omega.{arith}
 use lib.Dec.{leb, eqb}
 use native.Mathlib.Numerals.{add-one}
-use lib.ListN.{getD, take, drop, drop-of-length-le, List·getD-append}
-use lib.Seq.{getD-take, getD-at, drop-cons}
-use borrow.Author.Tests.{leb-true, eqb-true, eqb-false}
+use lib.ListN.{getD, take, drop, drop-of-length-le}
+use lib.Seq.{getD-take, drop-cons}
+use borrow.Author.Tests.{leb-true}
 use Rattle.text.specs.declared.programs.Instr.{Instr}
 use Rattle.text.specs.declared.programs.Program.{Program}
 use Rattle.text.specs.Held.{noInstr, noProgram, trimmed, programAt}
 use Rattle.text.specs.Rows.{firsts}
-use Rattle.text.proofs.RowLaws.{firsts-length}
-use Rattle.machine.proofs.Tests.{byBool, second}
+use Rattle.text.proofs.RowLaws.{firsts-length, firsts-at}
+use Rattle.machine.proofs.Tests.{second}
 use Rattle.machine.specs.Rules.{bad, fine, instructions, programs, bodyOf, bodyKeeps, headKeeps}
 
 -- instruction j of a program of n
@@ -33,15 +33,6 @@ module _ (code : List Instr) (n j line : ℕ) (h : j < n) where
   pub bad-line : bodyKeeps (getD code j noInstr) j n ≡ false → instructions (n - j) (take n code) n j line ≡ bad line
   unfolding instructions
   bad-line e = rw (left, here, e)
-
-firsts-at : {A : Type 0} (f : ℕ → A) (n i : ℕ) (d : A) → i < n → getD (firsts f n) i d ≡ f i
-unfolding firsts
-firsts-at f zero i d h = absurd (omega arith)
-firsts-at f (suc n) i d h =
-    let l = firsts-length f n in
-    byBool (eqb i n)
-    (λ t. let e = eqb-true i n t in ap (λ k. getD (firsts f n ++ f n ∷ []) k d) e ∙ getD-at (firsts f n) (f n) [] d n l ∙ ap f (sym e))
-    (λ t. let e = eqb-false i n t in List·getD-append (firsts f n) _ d i (omega arith) ∙ firsts-at f n i d (omega arith))
 
 -- program k of m
 module _ (t : List Program) (m k line : ℕ) (h : k < m) where

@@ -1,42 +1,34 @@
 -- Two program tables in which the machine finds the same: the table in an array, with blank instructions behind each program's own, and the
--- programs as they were read; and a request goes on in the same way by the same instructions.
-use Prim.Native.Nat.{ℕ, zero, suc, _+_, _%_, _<_}
+-- programs as they were read; and by the same instructions a request goes on in the same way, which makes the same machine.
+use Prim.Native.Nat.{ℕ, zero, suc, _+_, _-_, _%_, _<_}
 use mathlib.Core.List.{List, [], _∷_}
 use mathlib.Core.Path.{_≡_, refl, sym, ap, _∙_}
 use native.Mathlib.Omega.{arith}
 use borrow.Author.Tests.{ltb-true, ltb-false}
 use lib.Dec.{ltb}
-use lib.ListN.{getD, take, length-take, List·getD-append, List·getD-eq-default}
-use lib.Seq.{getD-take, getD-at}
+use lib.ListN.{getD, take, length-take, List·getD-eq-default}
+use lib.Seq.{getD-take}
 use Rattle.text.specs.Held.{noInstr, noProgram, trimmed, programAt, Bounded}
 use Rattle.text.specs.Rows.{firsts}
 use Rattle.text.specs.declared.programs.Instr.{Instr}
 use Rattle.text.specs.declared.programs.Program.{Program}
-use Rattle.text.proofs.RowLaws.{firsts-length}
-use Rattle.ordering.proofs.Basics.{byBool, byEq}
+use Rattle.text.proofs.RowLaws.{firsts-at}
+use Rattle.ordering.proofs.Basics.{byBool}
 use Rattle.machine.specs.declared.instructions.Act.{Act}
 use Rattle.machine.specs.declared.instructions.Act.the-variants.{Goes, Asks, Replies}
+use Rattle.machine.specs.Instance.{Process, nextOf, behindAll, codeAt, resumedWith, gone, machine}
 use Rattle.machine.specs.Instructions.{effectOf}
-use Rattle.machine.specs.Processes.{Advanced, instrAt, behind, follow, go}
+use Rattle.machine.specs.Objects.{Content, apply, logged}
+use Rattle.machine.specs.Processes.{Advanced, firstLocals, instrAt, behind, follow, go}
 
 -- ── a table in an array, and as it was read ──
-pub getD-firsts : {A : Type 0} (f : ℕ → A) (n k : ℕ) (d : A) → k < n → getD (firsts f n) k d ≡ f k
-unfolding firsts
-getD-firsts f zero k d h = absurd (omega arith)
-getD-firsts f (suc n) k d h =
-    byEq k n
-    (λ e i. rw e (getD-at (firsts f n) (f n) [] d n (firsts-length f n)))
-    (λ e i.
-    List·getD-append (firsts f n) (f n ∷ []) d k (omega (arith, firsts-length f n))
-    ∙ getD-firsts f n k d (omega arith))
-
 module _ (table : List Program) (n : ℕ) where
   abbrev read : List Program
   read = firsts (programAt table) n
 
   read-at : (k : ℕ) → k < n → getD read k noProgram ≡ trimmed (getD table k noProgram)
   unfolding programAt
-  read-at k h = getD-firsts (programAt table) n k noProgram h
+  read-at k h = firsts-at (programAt table) n k noProgram h
 
   pub same-code : (prog : ℕ) → prog < n → Bounded (getD table prog noProgram) → (at : ℕ) →
       instrAt (getD table prog noProgram .code) at ≡ instrAt (getD read prog noProgram .code) at
@@ -66,3 +58,22 @@ go-same p q h (suc k) l at done =
     rw (h at)
     (ap (behind (at % 64))
     (follow-same (e .act) (e .locals) (at % 64 + 1) (done + 1) _ _ (λ m to. go-same p q h k m to (done + 1))))
+
+module _ (limit : ℕ) (t u : List Program) (h : (prog at : ℕ) → instrAt (codeAt t prog) at ≡ instrAt (codeAt u prog) at) where
+  pub gone-same : (p : Process) → gone limit t p ≡ gone limit u p
+  gone-same p = ap (behindAll (p .path)) (go-same _ _ (h (p .prog)) (limit - p .done) (p .locals) (p .at) (p .done))
+
+  unfoldable pub machine-same : machine limit t ≡ machine limit u
+  machine-same =
+      λ i. record {
+        Process = Process;
+        Content = Content;
+        start = λ prog a b. record { prog = prog; locals = firstLocals a b; at = 0; done = 0; path = [] };
+        advance = λ p. nextOf (gone-same p i .stop .next);
+        resume = λ p v. resumedWith (p .prog) v (gone-same p i);
+        pathSoFar = λ p. p .prog ∷ p .path;
+        pathAtEnd = λ p. p .prog ∷ gone-same p i .path;
+        apply = apply;
+        logged = logged;
+        logged-apply = λ o c. refl;
+      }

@@ -4,7 +4,6 @@ use mathlib.Core.List.{List, [], _∷_}
 use mathlib.Core.Bool.{cond}
 use lib.Dec.{ltb}
 use lib.ListN.{getD, set}
-use lib.Seq.{sets}
 use Rattle.text.specs.declared.programs.Instr.{Instr}
 use Rattle.text.specs.Held.{noInstr}
 use Rattle.machine.specs.declared.instructions.Act.{Act}
@@ -60,10 +59,6 @@ go (suc k) p l at done =
 -- under a limit of instructions in all; it is looked at before an instruction is fetched
 abbrev pub advanceOf : (limit : ℕ) → List Instr → List ℕ → (at done : ℕ) → Advanced
 advanceOf limit p l at done = go (limit - done) p l at done
-
--- the same with the path kept in a buffer, behind the `done` positions that stand there, as far as there is room
-abbrev pub inBuffer : List ℕ → ℕ → Advanced → Advanced
-inBuffer b done r = advanced (r .locals) (r .stop) (sets b done (r .path))
 
 -- the answer v of an operation goes into its local, if it has one
 abbrev pub resumed : List ℕ → (into v : ℕ) → List ℕ

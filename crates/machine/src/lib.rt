@@ -1,4 +1,4 @@
-// The machine: the program rules, one instruction, a request from operation to operation, and the objects.
+// The machine: the program rules, one instruction, what a request comes to, and the objects.
 mod codes;
 mod instructions;
 mod objects;
@@ -13,9 +13,7 @@ pub use objects::perform;
 pub use processes::LIMIT;
 pub use processes::Next;
 pub use processes::Stop;
-pub use processes::advance;
 pub use processes::first_locals;
-pub use processes::mark;
 pub use processes::resume;
 pub use rules::Field;
 pub use rules::Fields;

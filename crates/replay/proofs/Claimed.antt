@@ -9,10 +9,11 @@ use lib.Seq.{sets, sets-eq, length-sets}
 use native.Mathlib.Omega.{arith}
 use Rattle.text.specs.Held.{entryAt}
 use Rattle.text.specs.Rows.{firsts}
+use Rattle.text.specs.Scans.{FirstFrom}
 use Rattle.text.specs.declared.programs.Program.{Program}
 use Rattle.text.specs.declared.report.Entry.{Entry}
 use Rattle.text.specs.declared.report.Op.{Op}
-use Rattle.text.proofs.RowLaws.{firsts-length}
+use Rattle.text.proofs.RowLaws.{firsts-length, firsts-front}
 use Rattle.ordering.specs.Maps.{upd}
 use Rattle.ordering.proofs.Basics.{byBool}
 use Rattle.model.specs.Batch.{claims}
@@ -22,9 +23,9 @@ use Rattle.model.proofs.Equal.{same-op}
 use Rattle.machine.specs.Logs.{after, answersFrom}
 use Rattle.machine.specs.Objects.{Content, apply, atStart}
 use Rattle.replay.specs.Judges.{machineOf}
-use Rattle.replay.specs.Promises.{FirstFrom, stateAt, contentsAt, answerAt, Answers}
+use Rattle.replay.specs.Promises.{stateAt, contentsAt, answerAt, Answers}
 use Rattle.replay.specs.declared.claims.Answered.the-variants.{Wrong, Right}
-use Rattle.replay.proofs.Searches.{firsts-front, search-hit, search-none}
+use Rattle.replay.proofs.Searches.{search-hit, search-none}
 
 -- ── the claim ──
 module _ (table : List Program) where

@@ -8,6 +8,7 @@ use borrow.Author.Tests.{ltb-true, ltb-false}
 use lib.Dec.{ltb}
 use native.Mathlib.Omega.{arith}
 use Rattle.text.specs.Rows.{firsts}
+use Rattle.text.specs.Scans.{FirstFrom}
 use Rattle.text.specs.declared.report.Entry.{Entry}
 use Rattle.text.specs.declared.report.Of.{Of}
 use Rattle.ordering.proofs.Basics.{byBool}
@@ -15,7 +16,6 @@ use Rattle.model.specs.Audit.{allClaimed, bad8}
 use Rattle.model.specs.Batch.{claims, claimed}
 use Rattle.model.specs.Checks.{firstBad}
 use Rattle.model.proofs.LineScans.{Scanned, scan-on, scan-bad}
-use Rattle.replay.specs.Promises.{FirstFrom}
 use Rattle.replay.proofs.Searches.{search-hit, search-none}
 
 -- ── the line that claims an operation ──

@@ -11,10 +11,12 @@ use native.Mathlib.Nat.{mod-eq-of-lt}
 use native.Mathlib.Omega.{arith}
 use Rattle.text.specs.Held.{eventAt, ofAt, entryAt}
 use Rattle.text.specs.Rows.{firsts}
+use Rattle.text.specs.Scans.{FirstFrom}
 use Rattle.text.specs.declared.report.Of.{Of}
 use Rattle.text.specs.declared.trace.Event.the-variants.{Request, Response}
 use Rattle.text.specs.declared.trace.Event.{Event}
-use Rattle.text.proofs.RowLaws.{firsts-length}
+use Rattle.text.proofs.RowLaws.{firsts-length, firsts-front, firsts-at}
+use Rattle.text.proofs.ScanLaws.{one-place}
 use Rattle.ordering.specs.Lists.{All}
 use Rattle.ordering.specs.Positions.{slot, mergeOf, countsOf}
 use Rattle.ordering.specs.declared.Merged.{Merged}
@@ -28,10 +30,9 @@ use Rattle.model.specs.Nodes.{Node, ev, ln, lane, rid, num, nodes}
 use Rattle.model.proofs.Claims.{Counted, counted-mem, row7-lines}
 use Rattle.model.proofs.Requests.{Named, events-named}
 use Rattle.replay.specs.Judges.{batchOf, Ready}
-use Rattle.replay.specs.Promises.{FirstFrom, nodeAt, laneIn, numberIn, ItemIs, ItemsTo, Returns}
-use Rattle.replay.proofs.Places.{one-place}
+use Rattle.replay.specs.Promises.{nodeAt, laneIn, numberIn, ItemIs, ItemsTo, Returns}
 use Rattle.replay.proofs.Ready.{ready-formed}
-use Rattle.replay.proofs.Searches.{firsts-front, firsts-at, firsts-all, search-hit}
+use Rattle.replay.proofs.Searches.{firsts-all, search-hit}
 
 -- ── the item of an event ──
 module _ (ofs : List ℕ) (m : ℕ) (x : Event) (s : ℕ) where

@@ -12,11 +12,13 @@ use native.Mathlib.Nat.{mod-eq-of-lt}
 use native.Mathlib.Omega.{arith}
 use Rattle.text.specs.Held.{eventAt, ofAt, noProgram}
 use Rattle.text.specs.Rows.{firsts}
+use Rattle.text.specs.Scans.{FirstFrom}
 use Rattle.text.specs.declared.programs.Program.{Program}
 use Rattle.text.specs.declared.report.Of.{Of}
 use Rattle.text.specs.declared.trace.Event.the-variants.{Request, Response}
 use Rattle.text.specs.declared.trace.Event.{Event}
-use Rattle.text.proofs.RowLaws.{firsts-same}
+use Rattle.text.proofs.RowLaws.{firsts-same, firsts-front}
+use Rattle.text.proofs.ScanLaws.{first-before}
 use Rattle.ordering.proofs.Basics.{clash, byBool, byEq, eqb-self}
 use Rattle.model.specs.Audit.{requestChecks, replayChecks}
 use Rattle.model.specs.Batch.{Batch, answered, firstOf, countOf}
@@ -28,28 +30,14 @@ use Rattle.model.proofs.Trace.{KnownIn, AnsweredIn, row4-order, row4-answered}
 use Rattle.machine.specs.Instance.{Process, codeAt}
 use Rattle.machine.specs.Objects.{atStart}
 use Rattle.replay.specs.Judges.{batchOf, Ready, machineOf}
-use Rattle.replay.specs.Promises.{
-  FirstFrom,
-  opens,
-  closes,
-  pathIn,
-  doneIn,
-  outcomeIn,
-  Replays,
-  rowOf,
-  pathAt,
-  arrivalOf,
-  replyOf,
-  JudgesRequests,
-}
+use Rattle.replay.specs.Promises.{opens, closes, pathIn, doneIn, outcomeIn, Replays, rowOf, pathAt, arrivalOf, replyOf, JudgesRequests}
 use Rattle.replay.specs.declared.replays.Arrival.{Arrival}
 use Rattle.replay.specs.declared.replays.End.{End}
 use Rattle.replay.specs.declared.replays.End.the-variants.{Differs, Ended}
 use Rattle.replay.specs.declared.requests.Said.{Said}
-use Rattle.replay.proofs.Places.{first-before}
 use Rattle.replay.proofs.Ready.{ready-formed}
 use Rattle.replay.proofs.Rows.{checksOf, row-first, row-none, row-some}
-use Rattle.replay.proofs.Searches.{firsts-front, firsts-all, search-hit, search-none}
+use Rattle.replay.proofs.Searches.{firsts-all, search-hit, search-none}
 
 -- ── lines by their place ──
 firsts-mem : {A : Type 0} (f : ℕ → A) (n i : ℕ) → i < n → List·Memᴰ (f i) (firsts f n)

@@ -1,6 +1,5 @@
 -- The laws that the functions' proofs cite.
 -- Lines by their place
-pub mod Places
 pub mod Searches
 pub mod Ready
 -- Row 9

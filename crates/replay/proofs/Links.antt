@@ -5,13 +5,15 @@ use mathlib.Core.Path.{_≡_, sym, ap, subst, _∙_}
 use Prim.Native.Nat.{ℕ, suc, _-_, _≤_, _<_}
 use borrow.Author.Tests.{ltb-true, ltb-false}
 use lib.Dec.{eqb, ltb}
-use lib.ListN.{getD, set, length, length-set, replicate, getD-replicate}
+use lib.ListN.{getD, set, length, length-set, replicate}
 use lib.Seq.{getD-set-same, getD-set-other}
 use native.Mathlib.Omega.{arith}
+use Rattle.text.specs.Scans.{FirstFrom}
 use Rattle.text.specs.declared.report.Entry.{Entry}
-use Rattle.ordering.proofs.Basics.{byBool, same-or, and-true, yes-eqb, eqb-yes, eqb-no, no-eqb}
+use Rattle.text.proofs.ScanLaws.{heads-start, heads-back}
+use Rattle.ordering.proofs.Basics.{byBool, same-or, and-true, yes-eqb, no-eqb}
 use Rattle.model.specs.Batch.{claims}
-use Rattle.replay.specs.Promises.{FirstFrom, bucketOf, inBucket, Linked}
+use Rattle.replay.specs.Promises.{bucketOf, bucketAt, inBucket, Linked}
 
 -- no line above place j claims operation k of request r, and line j is in its bucket
 pub record Walking (line : ℕ → Entry) (n r k j : ℕ) : Type 0 where
@@ -19,47 +21,28 @@ pub record Walking (line : ℕ → Entry) (n r k j : ℕ) : Type 0 where
   pub bucketed : j < n → inBucket line (bucketOf r k) j ≡ true
 
 module _ (line : ℕ → Entry) (n : ℕ) (few : n ≤ 1024) where
-  abbrev bucketAt : ℕ → ℕ
-  bucketAt i = bucketOf (line i .rid) (line i .num)
-
   pub linked-start : (heads afters : List ℕ) → heads ≡ replicate 1024 1024 → length afters ≡ 1024 → Linked line n n heads afters
   linked-start heads afters e l = record {
-    heads-room = ap length e;
+    firsts-linked = heads-start (bucketAt line) 1024 n 1024 few heads e;
     afters-room = l;
-    head = λ b h.
-        let d : getD heads b 0 ≡ 1024 = ap (λ t. getD t b 0) e ∙ getD-replicate {A = ℕ} 1024 b 1024 0 h in
-        record { skipped = λ k a _ b. absurd (omega arith); found = λ s. absurd (omega arith) };
     next = λ j a b. absurd (omega arith);
   }
 
-  module _ (i b : ℕ) (heads afters : List ℕ) (low : i < n) (e : b ≡ bucketOf (line i .rid) (line i .num)) (h : Linked line n (suc i)
-      heads afters) where
+  -- line i is one line more at the front, which is in bucket b
+  module _ (i b : ℕ) (heads afters : List ℕ) (low : i < n) (e : b ≡ bucketAt line i) (h : Linked line n (suc i) heads afters) where
     below : b < 1024
     below = omega arith
 
-    head-on : (q : ℕ) → q < 1024 → FirstFrom (inBucket line q) i n (getD (set heads b i) q 0)
-    head-on q l = same-or (λ q. FirstFrom (inBucket line q) i n (getD (set heads b i) q 0)) b q
-        (rw (getD-set-same heads b i 0 (omega (arith, h .heads-room, below)))
-        (record { skipped = λ k a s _. absurd (omega arith); found = λ _. (omega arith, eqb-yes (sym e)) }))
-        (λ m _.
-        let f = h .head q l in
-        rw (getD-set-other heads b q i 0 (λ p. m (sym p)))
-        (record {
-          skipped = λ k a s t. same-or (λ k. inBucket line q k ≡ false) i k (eqb-no (λ p. m (e ∙ p))) (λ d _. f .skipped k (omega arith) s t);
-          found = λ s. (omega (arith, f .found s .0), f .found s .1);
-        }))
-
-    next-on : (j : ℕ) → i ≤ j → j < n → FirstFrom (inBucket line (bucketAt j)) (suc j) n (getD (set afters i (getD heads b 0)) j 0)
-    next-on j a l = same-or (λ j. FirstFrom (inBucket line (bucketAt j)) (suc j) n (getD (set afters i (getD heads b 0)) j 0)) i j
+    next-on : (j : ℕ) → i ≤ j → j < n → FirstFrom (inBucket line (bucketAt line j)) (suc j) n (getD (set afters i (getD heads b 0)) j 0)
+    next-on j a l = same-or (λ j. FirstFrom (inBucket line (bucketAt line j)) (suc j) n (getD (set afters i (getD heads b 0)) j 0)) i j
         (rw (getD-set-same afters i (getD heads b 0) 0 (omega (arith, h .afters-room)))
-        (subst (λ q. FirstFrom (inBucket line q) (suc i) n (getD heads b 0)) e (h .head b below)))
+        (subst (λ q. FirstFrom (inBucket line q) (suc i) n (getD heads b 0)) e (h .firsts-linked .head b below)))
         (λ m _. rw (getD-set-other afters i j (getD heads b 0) 0 (λ p. m (sym p))) (h .next j (omega arith) l))
 
     pub linked-back : Linked line n i (set heads b i) (set afters i (getD heads b 0))
     linked-back = record {
-      heads-room = length-set heads b i ∙ h .heads-room;
+      firsts-linked = heads-back (bucketAt line) 1024 n i b heads low e below (h .firsts-linked);
       afters-room = length-set afters i (getD heads b 0) ∙ h .afters-room;
-      head = head-on;
       next = next-on;
     }
 
@@ -84,7 +67,7 @@ module _ (line : ℕ → Entry) (n : ℕ) (few : n ≤ 1024) where
 
     pub walk-start : (j : ℕ) → j ≡ getD heads (bucketOf r k) 0 → Walking line n r k j
     walk-start j e =
-        let f = h .head (bucketOf r k) (omega arith) in
+        let f = h .firsts-linked .head (bucketOf r k) (omega arith) in
         subst (Walking line n r k) (sym e) (record {
           above = λ i l s. other i (f .skipped i (omega arith)
               l s);
@@ -101,7 +84,7 @@ module _ (line : ℕ → Entry) (n : ℕ) (few : n ≤ 1024) where
       module _ (low : j < n) (q : ℕ) (e : q ≡ getD afters j 0) where
         chain : FirstFrom (inBucket line (bucketOf r k)) (suc j) n q
         chain =
-            let p : bucketAt j ≡ bucketOf r k = yes-eqb (w .bucketed low) in
+            let p : bucketAt line j ≡ bucketOf r k = yes-eqb (w .bucketed low) in
             subst (FirstFrom (inBucket line (bucketOf r k)) (suc j) n) (sym e)
             (subst (λ b. FirstFrom (inBucket line b) (suc j) n (getD afters j 0)) p (h .next j (omega arith) low))
 

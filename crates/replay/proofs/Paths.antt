@@ -4,12 +4,11 @@ use mathlib.Core.List.{List}
 use mathlib.Core.Path.{_≡_, sym, ap, _∙_}
 use Prim.Native.Nat.{ℕ, _+_, _<_}
 use lib.ListN.{getD, length}
-use Rattle.text.proofs.RowLaws.{firsts-same, firsts-length}
+use Rattle.text.proofs.RowLaws.{firsts-same, firsts-length, firsts-at}
 use Rattle.ordering.proofs.Basics.{byBool}
 use Rattle.model.specs.Audit.{samePath}
 use Rattle.model.proofs.Equal.{same-path, path-same}
 use Rattle.replay.specs.Promises.{pathIn}
-use Rattle.replay.proofs.Searches.{firsts-at}
 
 unlike : (v w : List ℕ) → (v ≡ w → ⊥) → false ≡ samePath v w
 unlike v w n = byBool (samePath v w) (λ t. absurd (n (same-path v w t))) (λ t. sym t)

@@ -1,6 +1,6 @@
 -- Laws of one request's replay: what each instruction does to it, and how it ends.
 use mathlib.Core.Bool.{cond}
-use mathlib.Core.List.{List, [], _∷_, _++_, append-nil}
+use mathlib.Core.List.{List, [], _∷_, _++_}
 use mathlib.Core.Path.{_≡_, refl, sym, ap, subst, _∙_}
 use Prim.Native.Nat.{ℕ, zero, suc, _+_, _-_, _%_, _≤_, _<_}
 use lib.Dec.{eqb}
@@ -22,9 +22,9 @@ use Rattle.machine.specs.declared.instructions.Act.the-variants.{Goes, Asks, Re
 use Rattle.machine.specs.declared.processes.Next.the-variants.{Operation, Reply, Cut}
 use Rattle.machine.specs.Instance.{Process, codeAt, gone, nextOf, resumedWith}
 use Rattle.machine.specs.Instructions.{effect, effectOf}
-use Rattle.machine.specs.Processes.{advanced, stopAt, firstLocals, limit, instrAt, go, resumed}
+use Rattle.machine.specs.Processes.{advanced, stopAt, firstLocals, limit, instrAt, resumed}
 use Rattle.machine.specs.Objects.{atStart}
-use Rattle.machine.proofs.Turns.{moved, asked, replied}
+use Rattle.machine.proofs.Turns.{moved, asked, replied, cut-off}
 use Rattle.replay.specs.Judges.{machineOf}
 use Rattle.replay.specs.Promises.{Answers, answeredAs, pathIn, replayOf, Replays}
 use Rattle.replay.specs.declared.claims.Answered.{Answered}
@@ -93,14 +93,6 @@ same-gone : (table : List Program) (logs : List ℕ) (n rid s v left k : ℕ) (p
 same-gone table logs n rid s v left k p q d e =
     alike (machineOf table) _ s v left k p q
     (λ u. λ i. resumedWith (d i) u (e i)) (λ i. d i ∷ e i .path) (ap (λ t. nextOf (t .stop .next)) e)
-
--- a process with no instructions left
-cut-off : (limit : ℕ) (table : List Program) (p : Process) → limit ≤ p .done →
-    gone limit table p ≡ advanced (p .locals) (stopAt (p .at) (p .done) Cut) (p .path)
-unfolding go
-cut-off limit table p h =
-    let z : limit - p .done ≡ 0 = omega arith in
-    rw z (ap (advanced (p .locals) (stopAt (p .at) (p .done) Cut)) (append-nil (p .path)))
 
 module _ (logs : List ℕ) (n rid count base : ℕ) (code : List Instr) (l₀ old : List ℕ) where
   abbrev claimed : (table : List Program) → ℕ → Claim (machineOf table)

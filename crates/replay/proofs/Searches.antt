@@ -1,26 +1,16 @@
 -- What is looked up in a list by its structure is what stands at the place that a scan finds.
 use mathlib.Core.Bool.{Bool, cond}
-use mathlib.Core.List.{List, [], _∷_, _++_}
-use mathlib.Core.Path.{_≡_, refl, ap}
+use mathlib.Core.List.{List, [], _∷_}
+use mathlib.Core.Path.{_≡_, refl}
 use Prim.Native.Nat.{ℕ, zero, suc, _≤_, _<_}
-use lib.ListN.{getD}
 use native.Mathlib.Omega.{arith}
 use Rattle.text.specs.Rows.{firsts}
+use Rattle.text.specs.Scans.{FirstFrom}
+use Rattle.text.proofs.RowLaws.{firsts-front}
 use Rattle.ordering.specs.Lists.{All}
-use Rattle.replay.specs.Promises.{FirstFrom, stateAt}
+use Rattle.replay.specs.Promises.{stateAt}
 
 module _ {A : Type 0} where
-  -- the first of the first
-  pub firsts-front : (f : ℕ → A) (n : ℕ) → firsts f (suc n) ≡ f 0 ∷ firsts (λ i. f (suc i)) n
-  unfolding firsts
-  firsts-front f zero = refl
-  firsts-front f (suc n) = ap (λ t. t ++ f (suc n) ∷ []) (firsts-front f n)
-
-  pub firsts-at : (f : ℕ → A) (n i : ℕ) (d : A) → i < n → getD (firsts f n) i d ≡ f i
-  firsts-at f zero i d h = absurd (omega arith)
-  firsts-at f (suc n) zero d h = rw (firsts-front f n)
-  firsts-at f (suc n) (suc i) d h = rw (firsts-front f n) (firsts-at (λ i. f (suc i)) n i d (omega arith))
-
   pub firsts-all : (P : A → Type 0) (f : ℕ → A) (n i : ℕ) → All P (firsts f n) → i < n → P (f i)
   firsts-all P f zero i a h = absurd (omega arith)
   firsts-all P f (suc n) zero a h = (rw (firsts-front f n) at a) .0

@@ -1,5 +1,5 @@
 -- What the private functions promise.
-use mathlib.Core.Bool.{Bool, true, false, cond}
+use mathlib.Core.Bool.{Bool, false, cond}
 use mathlib.Core.List.{List, _∷_}
 use mathlib.Core.Path.{_≡_}
 use Prim.Native.Nat.{ℕ, zero, suc, _+_, _-_, _*_, _%_, _≤_, _<_}
@@ -7,6 +7,7 @@ use lib.Dec.{eqb, ltb}
 use lib.ListN.{getD, length, replicate}
 use Rattle.text.specs.Held.{eventAt, ofAt, entryAt}
 use Rattle.text.specs.Rows.{firsts}
+use Rattle.text.specs.Scans.{FirstFrom, Heads}
 use Rattle.text.specs.declared.programs.Instr.{Instr}
 use Rattle.text.specs.declared.programs.Program.{Program}
 use Rattle.text.specs.declared.report.Entry.{Entry}
@@ -29,12 +30,7 @@ use Rattle.replay.specs.declared.replays.End.{End}
 use Rattle.replay.specs.declared.replays.End.the-variants.{Differs, Ended}
 use Rattle.replay.specs.declared.claims.Answered.the-variants.{Wrong, Right}
 
--- ── a scan ──
--- s is the first place from i on where P holds, of the places below n; where there is none, s is not below n
-pub record FirstFrom (P : ℕ → Bool) (i n s : ℕ) : Type 0 where
-  pub skipped : (k : ℕ) → i ≤ k → k < s → k < n → P k ≡ false
-  pub found : s < n → (i ≤ s) × (P s ≡ true)
-
+-- ── lines by their request ──
 -- whether an event is the request, the response of a rid
 abbrev pub opens : ℕ → Event → Bool
 opens r (Request q prog a b) = eqb q r
@@ -49,15 +45,17 @@ closes r (Response q status value) = eqb q r
 abbrev pub bucketOf : (rid num : ℕ) → ℕ
 bucketOf r k = (r % 1024 * 67 + k % 1024) % 1024
 
+abbrev pub bucketAt : (ℕ → Entry) → ℕ → ℕ
+bucketAt line i = bucketOf (line i .rid) (line i .num)
+
 abbrev pub inBucket : (ℕ → Entry) → ℕ → ℕ → Bool
-inBucket line b i = eqb (bucketOf (line i .rid) (line i .num)) b
+inBucket line b i = eqb (bucketAt line i) b
 
 -- of the lines from i on, the first of each bucket, and behind each line the next of its bucket
 pub record Linked (line : ℕ → Entry) (n i : ℕ) (heads afters : List ℕ) : Type 0 where
-  pub heads-room : length heads ≡ 1024
+  pub firsts-linked : Heads (bucketAt line) 1024 n i heads
   pub afters-room : length afters ≡ 1024
-  pub head : (b : ℕ) → b < 1024 → FirstFrom (inBucket line b) i n (getD heads b 0)
-  pub next : (j : ℕ) → i ≤ j → j < n → FirstFrom (inBucket line (bucketOf (line j .rid) (line j .num))) (suc j) n (getD afters j 0)
+  pub next : (j : ℕ) → i ≤ j → j < n → FirstFrom (inBucket line (bucketAt line j)) (suc j) n (getD afters j 0)
 
 -- what i items of a sequence, one after the other, make of a state
 module _ {A S : Type 0} (next : S → A → S) where

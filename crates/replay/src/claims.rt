@@ -5,9 +5,10 @@ ghost use mathlib.Core.Path.{_≡_};
 ghost use Prim.Native.Nat.{_≤_};
 ghost use lib.ListN.{length, replicate};
 ghost use Rattle.text.specs.Held.{entryAt};
+ghost use Rattle.text.specs.Scans.{FirstFrom};
 ghost use Rattle.model.specs.Batch.{claims};
 ghost use Rattle.model.specs.Replay.{sameOp};
-ghost use Rattle.replay.specs.Promises.{FirstFrom, bucketOf, Linked, Blank, Prepared, Answers};
+ghost use Rattle.replay.specs.Promises.{bucketOf, Linked, Blank, Prepared, Answers};
 
 fn bucket(rid: u64, num: u64) -> usize
     ensures { λ r. ⌜ r ≡ bucketOf rid num ⌝ }

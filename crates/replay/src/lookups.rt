@@ -3,10 +3,10 @@ use text::Event;
 use text::event_at;
 use text::of_at;
 ghost use mathlib.Core.Path.{_≡_};
-ghost use Prim.Native.Nat.{_≤_};
 ghost use lib.Dec.{eqb};
 ghost use Rattle.text.specs.Held.{eventAt, ofAt};
-ghost use Rattle.replay.specs.Promises.{FirstFrom, opens, closes};
+ghost use Rattle.text.specs.Scans.{FirstFrom};
+ghost use Rattle.replay.specs.Promises.{opens, closes};
 
 fn is_request(e: Event, rid: u64) -> bool
     ensures { λ r. ⌜ r ≡ opens rid e ⌝ }
@@ -52,22 +52,6 @@ pub fn response_at(events: &[u64; 640], t: usize, rid: u64) -> usize
         i += 1;
     }
     t
-}
-
-// The `of` line of a rid, which is its request's place in arrival order.
-pub fn slot_of(ofs: &[u64; 192], m: usize, rid: u64) -> usize
-    ensures within { λ r. ⌜ r ≤ m ⌝ }
-    ensures first { λ r. ⌜ FirstFrom (λ i. eqb (ofAt (now (ofs .entry)) i .rid) rid) 0 m r ⌝ }
-{
-    let mut i: usize = 0;
-    while i < m {
-        let x = of_at(ofs, i);
-        if x.rid == rid {
-            return i;
-        }
-        i += 1;
-    }
-    m
 }
 
 // The first `of` line of the group that line k has.

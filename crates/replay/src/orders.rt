@@ -1,13 +1,15 @@
 // Row 9: the items of a batch for the merge, log lines first and then trace events, and what the merge leaves.
-use crate::lookups::slot_of;
 use text::Entry;
 use text::Event;
 use text::entry_at;
 use text::event_at;
+use text::first_slots;
 use text::of_at;
+use text::slot_of;
 ghost use mathlib.Core.Path.{_≡_};
 ghost use Prim.Native.Nat.{_≤_, _<_, _+_};
 ghost use lib.ListN.{length};
+ghost use Rattle.text.specs.Slots.{Slots};
 ghost use Rattle.model.specs.Nodes.{ev, ln};
 ghost use Rattle.replay.specs.Promises.{ItemIs, nodeAt, ItemsTo, Returns};
 
@@ -18,11 +20,11 @@ pub struct Item {
     pub number: u16,
 }
 
-fn line_item(ofs: &[u64; 192], m: usize, x: Entry) -> Item
-    requires { ⌜ m ≤ 64 ⌝ }
+fn line_item(ofs: &[u64; 192], m: usize, heads: &[u8; 256], x: Entry) -> Item
+    requires { ⌜ (m ≤ 64) × Slots (now ofs) m (now heads) ⌝ }
     ensures { λ r. ⌜ ItemIs (now (ofs .entry)) m (ln x) (r .lane) (r .request) (r .number) ⌝ }
 {
-    let s = slot_of(ofs, m, x.rid);
+    let s = slot_of(ofs, m, heads, x.rid);
     let o = x.op;
     Item {
         lane: (o.object % 16 + 1) as u8,
@@ -31,13 +33,13 @@ fn line_item(ofs: &[u64; 192], m: usize, x: Entry) -> Item
     }
 }
 
-fn event_item(ofs: &[u64; 192], m: usize, x: Event) -> Item
-    requires { ⌜ m ≤ 64 ⌝ }
+fn event_item(ofs: &[u64; 192], m: usize, heads: &[u8; 256], x: Event) -> Item
+    requires { ⌜ (m ≤ 64) × Slots (now ofs) m (now heads) ⌝ }
     ensures { λ r. ⌜ ItemIs (now (ofs .entry)) m (ev x) (r .lane) (r .request) (r .number) ⌝ }
 {
     match x {
         Event::Request { rid, .. } => {
-            let s = slot_of(ofs, m, rid);
+            let s = slot_of(ofs, m, heads, rid);
             Item {
                 lane: 0,
                 request: s as u8,
@@ -45,7 +47,7 @@ fn event_item(ofs: &[u64; 192], m: usize, x: Event) -> Item
             }
         }
         Event::Response { rid, .. } => {
-            let s = slot_of(ofs, m, rid);
+            let s = slot_of(ofs, m, heads, rid);
             let y = of_at(ofs, s);
             Item {
                 lane: 0,
@@ -61,18 +63,19 @@ fn item_at(
     events: &[u64; 640],
     ofs: &[u64; 192],
     m: usize,
+    heads: &[u8; 256],
     logs: &[u64; 6144],
     n: usize,
     i: usize,
 ) -> Item
-    requires { ⌜ m ≤ 64 ⌝ }
+    requires { ⌜ (m ≤ 64) × Slots (now ofs) m (now heads) ⌝ }
     ensures { λ r. ⌜ ItemIs (now (ofs .entry)) m (nodeAt (now (events .entry)) (now (logs .entry)) n i)
         (r .lane) (r .request) (r .number) ⌝ }
 {
     if i < n {
-        line_item(ofs, m, entry_at(logs, i))
+        line_item(ofs, m, heads, entry_at(logs, i))
     } else {
-        event_item(ofs, m, event_at(events, i - n))
+        event_item(ofs, m, heads, event_at(events, i - n))
     }
 }
 
@@ -93,9 +96,10 @@ fn put_items(
     ensures { λ _. ⌜ ItemsTo (now (events .entry)) (now (ofs .entry)) m (now (logs .entry)) n (n + t)
         (now (lane .exit)) (now (request .exit)) (now (number .exit)) ⌝ }
 {
+    let heads = first_slots(ofs, m);
     let mut i: usize = 0;
     while i < n + t {
-        let x = item_at(events, ofs, m, logs, n, i);
+        let x = item_at(events, ofs, m, &heads, logs, n, i);
         lane[i] = x.lane;
         request[i] = x.request;
         number[i] = x.number;

@@ -83,12 +83,15 @@ fn same_path(paths: &[u8; 16384], j: usize, k: usize, done: usize) -> bool
     true
 }
 
-// The path kept for the request in slot k is that of the one in slot f.
+// The path kept for the request in slot k is that of the one in slot f, which most often is itself.
 fn along(progs: &[u64; 64], lengths: &[usize; 64], paths: &[u8; 16384], k: usize, f: usize) -> bool
     requires { ⌜ (k < 64) × (f < 64) × (getD (now lengths) k 0 ≤ 256) ⌝ }
     ensures { λ r. ⌜ r ≡ samePath (pathAt (now (progs .entry)) (now (lengths .entry)) (now (paths .entry)) k)
         (pathAt (now (progs .entry)) (now (lengths .entry)) (now (paths .entry)) f) ⌝ }
 {
+    if k == f {
+        return true;
+    }
     if progs[k] != progs[f] {
         return false;
     }

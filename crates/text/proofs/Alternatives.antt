@@ -2,18 +2,18 @@
 use Prim.Native.Nat.{ℕ, min}
 use mathlib.Core.List.{List, [], _∷_}
 use mathlib.Core.Option.{Option, some, none}
-use mathlib.Core.Bool.{true}
+use mathlib.Core.Bool.{Bool, true, false}
 use mathlib.Core.Path.{_≡_, refl, sym, _∙_, ap}
 use native.Mathlib.Omega.{arith}
 use lib.ListN.{drop}
-use Rattle.lines.specs.Line.{Format, lineOf}
+use Rattle.lines.specs.Line.{Format, prefix, lineOf}
 use Rattle.lines.specs.Place.{line, lineEnd, Found, found, nothing, foundAt, lineAt, cells, foundIn}
 use Rattle.lines.specs.declared.lines.Place.{Place}
 use Rattle.lines.specs.declared.lines.Place.the-variants.{At, Nowhere}
 use Rattle.lines.proofs.Prefix.{unbroken}
-use Rattle.lines.proofs.LinePlaces.{line-of}
+use Rattle.lines.proofs.LinePlaces.{line-of, line-other}
 use Rattle.text.specs.Text.{Kind, addLine}
-use Rattle.text.specs.Steps.{first, second, neither, firstOf, secondOf, eitherAt, secondLine, toldIn}
+use Rattle.text.specs.Steps.{first, second, neither, firstOf, secondOf, eitherAt, firstLine, secondLine, toldIn}
 use Rattle.text.specs.declared.kinds.Line.{Line}
 use Rattle.text.specs.declared.kinds.Line.the-variants.{First, Second, Neither}
 use Rattle.text.proofs.Reading.{Adds}
@@ -36,11 +36,41 @@ module _ (f g : Format) (s : List ℕ) (at m n : ℕ) (v : List ℕ) where
       second-told (At e) = refl
       second-told Nowhere = refl
 
--- ── what it tells of the line at the place ──
+-- no line is of both formats
+abbrev pub Apart : Format → Format → Type 0
+Apart f g = (t : List ℕ) → prefix (g .word) t ≡ true → prefix (f .word) t ≡ false
 
 -- anything from equal constructors that differ
 pub clash : {P : Type 0} → _≡_ {A = ℕ} 0 1 → P
 clash z = absurd (omega arith)
+
+-- the reader of the second format goes ahead, and that of the first behind it
+module _ (f g : Format) (apart : Apart f g) (s : List ℕ) (at m n : ℕ) (v : List ℕ) where
+  not-first : (vs : List ℕ) (e : ℕ) → found vs e ≡ lineAt g s at → nothing ≡ lineAt f s at
+  not-first vs e h = go (prefix (g .word) (drop at s)) refl
+    where
+      go : (b : Bool) → prefix (g .word) (drop at s) ≡ b → nothing ≡ lineAt f s at
+      go true k = line-other (f .word) (f .ranges) s at (apart (drop at s) k)
+      go false k = let z : found vs e ≡ nothing = h ∙ sym (line-other (g .word) (g .ranges) s at k) in clash (cc)
+
+  pub told-second-ahead : (p : Place) (e : ℕ) → p ≡ At e → foundIn p n v ≡ lineAt g s at → toldIn (Second e) m n v ≡ eitherAt f g s at
+  unfolding foundIn toldIn eitherAt
+  told-second-ahead p e i h =
+      let k : found (cells (min n 6) v) e ≡ lineAt g s at = ap (λ q. foundIn q n v) (sym i) ∙ h in
+      ap secondOf k ∙ ap (λ t. firstOf t (lineAt g s at)) (not-first _ e k)
+
+  pub told-first-behind : (p q : Place) (u : List ℕ) (l : Line) → p ≡ Nowhere → foundIn p n u ≡ lineAt g s at → l ≡ firstLine q →
+      foundIn q m v ≡ lineAt f s at → toldIn l m n v ≡ eitherAt f g s at
+  unfolding foundIn toldIn eitherAt
+  told-first-behind p q u l i h j k =
+      let z : nothing ≡ lineAt g s at = ap (λ r. foundIn r n u) (sym i) ∙ h in
+      ap (λ t. toldIn t m n v) j ∙ line-told q ∙ (λ w. firstOf (k w) (z w))
+    where
+      line-told : (r : Place) → toldIn (firstLine r) m n v ≡ firstOf (foundIn r m v) nothing
+      line-told (At e) = refl
+      line-told Nowhere = refl
+
+-- ── what it tells of the line at the place ──
 
 -- a line that was found, or not
 found-line : (f : Format) → unbroken (f .word) ≡ true → (s : List ℕ) (at : ℕ) (vs : List ℕ) (e : ℕ) →
@@ -96,15 +126,15 @@ module _ (f g : Format) (s : List ℕ) (at m n : ℕ) (v : List ℕ)
   unfolding toldIn eitherAt
   first-line e i = found-line f u s at _ e (told-is-first _ _ _ _ (ap (λ t. toldIn t m n v) (sym i) ∙ h))
 
-  second-told : (e : ℕ) → l ≡ Second e → (nothing ≡ lineAt f s at) × (found (cells (min n 6) v) e ≡ lineAt g s at)
+  second-found : (e : ℕ) → l ≡ Second e → (nothing ≡ lineAt f s at) × (found (cells (min n 6) v) e ≡ lineAt g s at)
   unfolding toldIn eitherAt
-  second-told e i = told-is-second _ _ _ _ (ap (λ t. toldIn t m n v) (sym i) ∙ h)
+  second-found e i = told-is-second _ _ _ _ (ap (λ t. toldIn t m n v) (sym i) ∙ h)
 
   second-no-first : (e : ℕ) → l ≡ Second e → lineOf f (line (drop at s)) ≡ none
-  second-no-first e i = no-line f u s at (second-told e i .0)
+  second-no-first e i = no-line f u s at (second-found e i .0)
 
   pub second-line : (e : ℕ) → l ≡ Second e → (e ≡ lineEnd s at) × (lineOf g (line (drop at s)) ≡ some (cells (min n 6) v))
-  second-line e i = found-line g w s at _ e (second-told e i .1)
+  second-line e i = found-line g w s at _ e (second-found e i .1)
 
   neither-line : l ≡ Neither → (lineOf f (line (drop at s)) ≡ none) × (lineOf g (line (drop at s)) ≡ none)
   unfolding toldIn eitherAt

@@ -1,6 +1,7 @@
 pub mod Reading
 pub mod Alternatives
 pub mod RowLaws
+pub mod ScanLaws
 pub mod TraceReading
 pub mod ReportReading
 pub mod ScheduleReading

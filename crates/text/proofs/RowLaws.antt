@@ -71,6 +71,17 @@ module _ {A : Type 0} where
       let d = h n (omega arith) in
       λ i. e i ++ d i ∷ []
 
+  -- the first of the first, and what stands at a place of them
+  pub firsts-front : (f : ℕ → A) (n : ℕ) → firsts f (suc n) ≡ f 0 ∷ firsts (λ i. f (suc i)) n
+  unfolding firsts
+  firsts-front f zero = refl
+  firsts-front f (suc n) = ap (λ t. t ++ f (suc n) ∷ []) (firsts-front f n)
+
+  pub firsts-at : (f : ℕ → A) (n i : ℕ) (d : A) → i < n → getD (firsts f n) i d ≡ f i
+  firsts-at f zero i d h = absurd (omega arith)
+  firsts-at f (suc n) zero d h = rw (firsts-front f n)
+  firsts-at f (suc n) (suc i) d h = rw (firsts-front f n) (firsts-at (λ i. f (suc i)) n i d (omega arith))
+
   -- one record more
   pub firsts-more : (f g : ℕ → A) (n : ℕ) (x : A) → ((i : ℕ) → i < n → f i ≡ g i) → f n ≡ x →
       firsts f (n + 1) ≡ firsts g n ++ x ∷ []

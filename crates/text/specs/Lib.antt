@@ -5,5 +5,7 @@ pub mod Trace
 pub mod Report
 pub mod Schedule
 pub mod Rows
+pub mod Scans
 pub mod Held
+pub mod Slots
 pub mod Steps

@@ -29,6 +29,10 @@ firstOf nothing g = secondOf g
 unfoldable pub eitherAt : Format → Format → List ℕ → ℕ → Told
 eitherAt f g s at = firstOf (lineAt f s at) (lineAt g s at)
 
+abbrev pub firstLine : Place → Line
+firstLine (At e) = First e
+firstLine Nowhere = Neither
+
 abbrev pub secondLine : Place → Line
 secondLine (At e) = Second e
 secondLine Nowhere = Neither

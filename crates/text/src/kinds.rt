@@ -1,6 +1,6 @@
 // What reading a line and a text answers. Each text has two kinds of line.
 ghost use mathlib.Core.Path.{_≡_};
-ghost use Rattle.text.specs.Steps.{secondLine};
+ghost use Rattle.text.specs.Steps.{firstLine, secondLine};
 use lines::Place;
 
 // Which kind of line stands at a place, and where it ends; or neither.
@@ -14,6 +14,16 @@ pub enum Line {
 pub enum Lines {
     Readable(usize),
     Unreadable(usize),
+}
+
+// The line of the first kind, where none of the second stands.
+pub fn first(p: Place) -> Line
+    ensures { λ r. ⌜ r ≡ firstLine p ⌝ }
+{
+    let Place::At(e) = p else {
+        return Line::Neither;
+    };
+    Line::First(e)
 }
 
 // The line of the second kind, where none of the first stands.

@@ -3,6 +3,7 @@ mod kinds;
 mod programs;
 mod report;
 mod schedule;
+mod slots;
 mod trace;
 
 pub use kinds::Lines;
@@ -20,6 +21,8 @@ pub use report::read_report;
 pub use schedule::Move;
 pub use schedule::move_at;
 pub use schedule::read_schedule;
+pub use slots::first_slots;
+pub use slots::slot_of;
 pub use trace::Event;
 pub use trace::event_at;
 pub use trace::read_trace;

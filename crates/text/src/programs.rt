@@ -7,7 +7,7 @@ ghost use Rattle.text.specs.Programs.{instrFrom};
 ghost use Rattle.text.specs.Held.{noInstr, ProgramsIs};
 ghost use Rattle.text.specs.Steps.{eitherAt, toldIn, unreadablePrograms};
 use crate::kinds::Line;
-use crate::kinds::second;
+use crate::kinds::first;
 use lines::Place;
 use lines::line_at;
 
@@ -34,18 +34,18 @@ pub struct Programs {
     pub table: [Program; 16],
 }
 
-// The line from at on: a `program` or a `do` line.
+// The line from at on: a `program` or a `do` line. Most are of the second kind, which is tried first.
 fn program_line(s: &[u8], at: usize, v: &mut [u64; 6]) -> Line
     ensures { λ r. ⌜ toldIn r 1 4 (now (v .exit)) ≡ eitherAt programLine doLine (now (s .entry)) at ⌝ }
 {
     let max: u64 = 18446744073709551615;
     let low = [0u64; 6];
-    let program = [max, 0, 0, 0, 0, 0];
-    match line_at(s, at, b"program=", 1, &low, &program, v) {
-        Place::At(e) => Line::First(e),
+    let instr = [max, max, max, max, 0, 0];
+    match line_at(s, at, b"do=", 4, &low, &instr, v) {
+        Place::At(e) => Line::Second(e),
         Place::Nowhere => {
-            let instr = [max, max, max, max, 0, 0];
-            second(line_at(s, at, b"do=", 4, &low, &instr, v))
+            let program = [max, 0, 0, 0, 0, 0];
+            first(line_at(s, at, b"program=", 1, &low, &program, v))
         }
     }
 }

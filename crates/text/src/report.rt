@@ -8,7 +8,7 @@ ghost use Rattle.text.specs.Rows.{withRow};
 ghost use Rattle.text.specs.Held.{ofAt, entryAt, ReportIs};
 ghost use Rattle.text.specs.Steps.{eitherAt, toldIn};
 use crate::kinds::Line;
-use crate::kinds::second;
+use crate::kinds::first;
 use lines::Place;
 use lines::line_at;
 
@@ -40,25 +40,25 @@ pub enum ReportLines {
     BadLine(usize),
 }
 
-// The line from at on: an `of` or a `log` line.
+// The line from at on: an `of` or a `log` line. Most are of the second kind, which is tried first.
 fn report_line(s: &[u8], at: usize, v: &mut [u64; 6]) -> Line
     ensures { λ r. ⌜ toldIn r 3 6 (now (v .exit)) ≡ eitherAt ofLine logLine (now (s .entry)) at ⌝ }
 {
-    let none = [0u64; 6];
-    let of = [65535, 63, 256, 0, 0, 0];
-    match line_at(s, at, b"of=", 3, &none, &of, v) {
-        Place::At(e) => Line::First(e),
+    let low = [0, 0, 0, 6, 0, 0];
+    let high = [
+        15,
+        65535,
+        256,
+        9,
+        18446744073709551615,
+        18446744073709551615,
+    ];
+    match line_at(s, at, b"log=", 6, &low, &high, v) {
+        Place::At(e) => Line::Second(e),
         Place::Nowhere => {
-            let low = [0, 0, 0, 6, 0, 0];
-            let high = [
-                15,
-                65535,
-                256,
-                9,
-                18446744073709551615,
-                18446744073709551615,
-            ];
-            second(line_at(s, at, b"log=", 6, &low, &high, v))
+            let none = [0u64; 6];
+            let of = [65535, 63, 256, 0, 0, 0];
+            first(line_at(s, at, b"of=", 3, &none, &of, v))
         }
     }
 }

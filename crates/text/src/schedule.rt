@@ -10,7 +10,7 @@ ghost use Rattle.text.specs.Held.{moveAt, ScheduleIs};
 ghost use Rattle.text.specs.Steps.{eitherAt, toldIn};
 use crate::kinds::Line;
 use crate::kinds::Lines;
-use crate::kinds::second;
+use crate::kinds::first;
 use lines::Place;
 use lines::line_at;
 
@@ -20,18 +20,18 @@ pub enum Move {
     Turn { rid: u64 },
 }
 
-// The line from at on: an arrival or a turn.
+// The line from at on: an arrival or a turn. Most are of the second kind, which is tried first.
 fn schedule_line(s: &[u8], at: usize, v: &mut [u64; 6]) -> Line
     ensures { λ r. ⌜ toldIn r 4 1 (now (v .exit)) ≡ eitherAt arriveLine turnLine (now (s .entry)) at ⌝ }
 {
     let max: u64 = 18446744073709551615;
     let low = [0u64; 6];
-    let arrive = [65535, max, max, max, 0, 0];
-    match line_at(s, at, b"arrive=", 4, &low, &arrive, v) {
-        Place::At(e) => Line::First(e),
+    let turn = [65535, 0, 0, 0, 0, 0];
+    match line_at(s, at, b"turn=", 1, &low, &turn, v) {
+        Place::At(e) => Line::Second(e),
         Place::Nowhere => {
-            let turn = [65535, 0, 0, 0, 0, 0];
-            second(line_at(s, at, b"turn=", 1, &low, &turn, v))
+            let arrive = [65535, max, max, max, 0, 0];
+            first(line_at(s, at, b"arrive=", 4, &low, &arrive, v))
         }
     }
 }

@@ -1,6 +1,6 @@
 -- Rows 6 and 7 in the terms of their scans.
 use Prim.Native.Nat.{ℕ, suc, _+_, _-_, _≤_, _<_}
-use mathlib.Core.Bool.{Bool, true, false, not, _||_}
+use mathlib.Core.Bool.{Bool, true, false, not, cond, _||_, false≢true}
 use mathlib.Core.List.{List, [], _∷_}
 use mathlib.Core.Path.{_≡_, refl, sym, ap, _∙_}
 use native.Mathlib.Numerals.{add-one}
@@ -10,6 +10,7 @@ use lib.ListN.{length, getD, set}
 use lib.Seq.{getD-set-same, getD-set-other}
 use Rattle.text.specs.Held.{ofAt, entryAt}
 use Rattle.text.specs.Rows.{firsts}
+use Rattle.text.specs.Scans.{FirstFrom}
 use Rattle.text.specs.declared.report.Entry.{Entry}
 use Rattle.text.specs.declared.report.Of.{Of}
 use Rattle.text.specs.declared.trace.Event.the-variants.{Request, Response}
@@ -22,8 +23,9 @@ use Rattle.model.specs.Checks.{firstBad}
 use Rattle.model.proofs.LineScans.{above, from, firsts-from, from-next, from-end, Scanned, scan-on, scan-bad, scan-end}
 use Rattle.machine.specs.Rules.{brokenLine}
 use Rattle.machine.specs.declared.rules.Ruling.the-variants.{Kept, Broken}
-use Rattle.verifier.specs.Steps.{any, beyond, packed, reported}
-use Rattle.verifier.proofs.Searches.{or-true}
+use Rattle.replay.proofs.Searches.{search-hit, search-none}
+use Rattle.verifier.specs.Steps.{any, beyond, packed, Packed, occurs, Without, reported}
+use Rattle.verifier.proofs.Searches.{or-true, any-firsts, any-at, any-none, Passed}
 
 -- ── row 6: the first i of t events and the first j of m `of` lines go together ──
 pub record Matching (e : ℕ → Event) (f : ℕ → Of) (t m i j : ℕ) : Type 0 where
@@ -73,36 +75,28 @@ module _ {e : ℕ → Event} {f : ℕ → Of} {t m : ℕ} where
       pub match-end : m ≤ j → brokenLine Kept ≡ row6From 1 (firsts e t) (firsts f m)
       match-end g = rw (from-end e h, from-end f g) at (s .same)
 
--- ── row 7: the `of` line of a rid, looked for from line j of m on ──
-pub record Seeking (f : ℕ → Of) (m r k j : ℕ) : Type 0 where
-  pub within : j ≤ m
-  pub same : beyond (from f j (m - j)) r k ≡ beyond (firsts f m) r k
+-- ── row 7: the `of` line of a rid, which is in slot s ──
+module _ (f : ℕ → Of) (m r k s : ℕ) (g : FirstFrom (λ i. eqb (f i .rid) r) 0 m s) where
+  -- the line is looked for downward
+  step : (x : Of) (xs : List Of) → beyond (x ∷ xs) r k ≡ cond (eqb (x .rid) r) (eqb k 0 || ltb (x .count) k) (beyond xs r k)
+  step x xs = byBool (eqb (x .rid) r) (λ e. rw e) (λ e. rw e)
 
-module _ {f : ℕ → Of} {m r k : ℕ} where
-  pub seek-start : Seeking f m r k 0
-  seek-start = let z : m - 0 ≡ m = omega arith in record { within = omega arith; same = rw (z, firsts-from f m) }
+  pub slot-none : m ≤ s → true ≡ beyond (firsts f m) r k
+  slot-none l =
+      sym (search-none (λ (c : Unit {0}) xs. beyond xs r k) (λ x. eqb (x .rid) r) (λ c x. eqb k 0 || ltb (x .count) k) (λ c x. c)
+      (λ c x xs. step x xs) m s f tt g l)
 
-  module _ {j : ℕ} (s : Seeking f m r k j) where
-    module _ (h : j < m) (y : Of) (q : y ≡ f j) where
-      pub seek-on : (y .rid ≡ r → ⊥) → Seeking f m r k (j + 1)
-      seek-on d =
-          let n : eqb (f j .rid) r ≡ false = rw (← q) (eqb-no {a = y .rid} {b = r} d) in
-          record { within = omega arith; same = rw (from-next f h, n) at (s .same) }
+  module _ (l : s < m) where
+    slot-is : beyond (firsts f m) r k ≡ (eqb k 0 || ltb (f s .count) k)
+    slot-is =
+        search-hit (λ (c : Unit {0}) xs. beyond xs r k) (λ x. eqb (x .rid) r) (λ c x. eqb k 0 || ltb (x .count) k) (λ c x. c)
+        (λ c x xs. step x xs) m s f tt g l
 
-      module _ (d : y .rid ≡ r) where
-        hit : (eqb k 0 || ltb (y .count) k) ≡ beyond (firsts f m) r k
-        hit =
-            let n : eqb (f j .rid) r ≡ true = rw (← q) (eqb-yes d) in
-            rw q (rw (from-next f h, n) at (s .same))
+    pub slot-zero : k ≡ 0 → true ≡ beyond (firsts f m) r k
+    slot-zero z = sym (slot-is ∙ rw (eqb-yes z))
 
-        pub seek-zero : k ≡ 0 → true ≡ beyond (firsts f m) r k
-        seek-zero z = ap (λ b. b || ltb (y .count) k) (sym (eqb-yes z)) ∙ hit
-
-        pub seek-count : (k ≡ 0 → ⊥) → ltb (y .count) k ≡ beyond (firsts f m) r k
-        seek-count z = ap (λ b. b || ltb (y .count) k) (sym (eqb-no z)) ∙ hit
-
-    pub seek-end : m ≤ j → true ≡ beyond (firsts f m) r k
-    seek-end h = rw (from-end f h) at (s .same)
+    pub slot-count : (k ≡ 0 → ⊥) → (y : Of) → y ≡ f s → ltb (y .count) k ≡ beyond (firsts f m) r k
+    slot-count z y e = ap (λ x. ltb (x .count) k) e ∙ sym (slot-is ∙ rw (eqb-no z))
 
 -- ── claims ──
 claimed-any : (ls : List Entry) (r k : ℕ) → claimed ls r k ≡ any (claims r k) ls
@@ -135,6 +129,55 @@ packed-more logs column n i p l e q h g j k =
     byEq j i
     (λ z d. rw z (getD-set-same column i p 0 h ∙ q ∙ (λ w. packed (e w .rid) (e w .num))))
     (λ z d. getD-set-other column i j p 0 z ∙ g j (omega arith))
+
+-- ── blocks of the column: b says whether p is one of the first k of n from j on ──
+pub record Met (column : List ℕ) (p j n k : ℕ) (b : Bool) : Type 0 where
+  pub within : k ≤ n
+  pub same : b ≡ any (λ x. eqb x p) (above (λ q. getD column (j + q) 0) k)
+
+module _ {column : List ℕ} {p j n : ℕ} where
+  pub met-start : Met column p j n 0 false
+  met-start = record { within = omega arith; same = refl }
+
+  module _ {k : ℕ} {b : Bool} (s : Met column p j n k b) where
+    pub met-more : k < n → Met column p j n (k + 1) (eqb (getD column (j + k) 0) p || b)
+    met-more h = record { within = omega arith; same = rw (add-one k, s .same) }
+
+    pub met-end : n ≤ k → b ≡ occurs column p j n
+    met-end h =
+        let z : n ≡ k = omega (arith, s .within) in
+        rw z (s .same ∙ sym (any-firsts (λ q. getD column (j + q) 0) (λ x. eqb x p) k))
+
+module _ {column : List ℕ} {p i : ℕ} where
+  pub without-start : Without column p i 0
+  without-start = record { within = omega arith; other = λ k h. absurd (omega arith) }
+
+  -- n numbers from a on, of which none is p
+  pub without-more : {j : ℕ} → Without column p i j → (a n b : ℕ) → a ≤ j → b ≡ a + n → b ≤ i → occurs column p a n ≡ false →
+      Without column p i b
+  without-more {j} s a n b low is within e = record { within = within; other = other }
+    where
+      f : ℕ → ℕ
+      f k = getD column (a + k) 0
+
+      miss : (k : ℕ) → k < n → f k ≡ p → ⊥
+      miss k g d = false≢true (sym e ∙ any-firsts f (λ x. eqb x p) n ∙ any-at f (λ x. eqb x p) n k g (eqb-yes d))
+
+      other : (k : ℕ) → k < b → getD column k 0 ≡ p → ⊥
+      other k g d =
+          let u : k < j → ⊥ = λ l. s .other k l d in
+          let l : j ≤ k = omega (arith, u) in
+          let z : a + (k - a) ≡ k = omega arith in
+          miss (k - a) (omega arith) (ap (λ q. getD column q 0) z ∙ d)
+
+-- lines whose packed claims are not p do not claim what p packs
+pub without-claims : (logs column : List ℕ) (n i j r k p : ℕ) → Packed logs n column → i < n → p ≡ packed r k → Without column p i j →
+    Passed (claims r k) (entryAt logs) i j
+without-claims logs column n i j r k p c h q s = record {
+  within = s .within;
+  missed = any-none (entryAt logs) (claims r k) j
+      (λ l g. let w : l < n = omega (arith, s .within) in sym (claims-not r k (entryAt logs l) (getD column l 0) p (c .claim l w) q (s .other l g)));
+}
 
 parted : (a b c d : Bool) → (not a || (b || (c || d))) ≡ ((not a || (b || c)) || d)
 parted true true c d = refl

@@ -31,9 +31,13 @@ module _ {A : Type 0} (f : ℕ → A) (p : A → Bool) where
   any-firsts zero = refl
   any-firsts (suc n) = any-behind (firsts f n) (f n) ∙ ap (λ b. p (f n) || b) (any-firsts n)
 
-  any-at : (n j : ℕ) → j < n → p (f j) ≡ true → any p (above f n) ≡ true
+  pub any-at : (n j : ℕ) → j < n → p (f j) ≡ true → any p (above f n) ≡ true
   any-at zero j h e = absurd (omega arith)
   any-at (suc n) j h e = byEq j n (λ z d. rw (← z, e)) (λ z d. rw (any-at n j (omega arith) e) (or-true (p (f n))))
+
+  pub any-none : (n : ℕ) → ((j : ℕ) → j < n → p (f j) ≡ false) → any p (above f n) ≡ false
+  any-none zero h = refl
+  any-none (suc n) h = rw (h n (omega arith)) (any-none n (λ j g. h j (omega arith)))
 
 -- none of the first j passes the test p
 pub record Passed {A : Type 0} (p : A → Bool) (f : ℕ → A) (n j : ℕ) : Type 0 where

@@ -42,8 +42,21 @@ use Rattle.replay.specs.Judges.{batchIn, Ready, checks, Judges}
 use Rattle.replay.specs.declared.Fault.{Fault}
 use Rattle.verifier.specs.Accepts.{Accepts}
 use Rattle.verifier.specs.Faults.{badLine, contents, row2, batchOf, audited, auditedOf, auditOf}
-use Rattle.verifier.specs.Steps.{refusal, eventsIn, linesIn, TraceHeld, ReportHeld, auditedReport, auditedTrace}
+use Rattle.verifier.specs.Steps.{
+  refusal,
+  eventsIn,
+  linesIn,
+  TraceHeld,
+  auditedReport,
+  auditedTrace,
+  ReportChecked,
+  BatchHeld,
+  BatchChecked,
+}
 use Rattle.verifier.specs.declared.Audited.{Audited}
+use Rattle.verifier.specs.declared.audits.Checked.{Checked}
+use Rattle.verifier.specs.declared.audits.Checked.the-variants.{Refused}
+use Rattle.verifier.specs.declared.audits.Checked.the-variants as checked
 use Rattle.verifier.proofs.Acceptance.{audit-accepts}
 use Rattle.verifier.proofs.ReportRanges.{report-in-range}
 use Rattle.verifier.proofs.SameReplays.{replays-same}
@@ -73,7 +86,7 @@ module _ (i j k : ℕ) (a b c : Option ℕ) (cs : List Check) where
   none-holds : a ≡ none → b ≡ none → c ≡ none → firstFault cs ≡ firstFault rows
   none-holds d f e = rw (d, f, e)
 
--- ── rows 6 to 12 ──
+-- ── rows 6 and 7 ──
 -- one `of` line for each request
 matching-count : (es : List Event) (xs : List Of) → Matching es xs → length xs ≡ count isRequest es
 unfolding count
@@ -104,48 +117,6 @@ module _ (table : List Program) (events : List Event) (lines : Report) where
       firstFault (check 8 (row8 b) ∷ behind8) ≡ firstFault (reportChecks (machine limit table) atStart b)
   past-7 d f = λ i. firstFault (check 6 (sym d i) ∷ check 7 (sym f i) ∷ check 8 (row8 b) ∷ behind8)
 
--- rows 8 to 12 of what stands in the arrays
-module _ (ps : Programs) (events : List ℕ) (t : ℕ) (ofs : List ℕ) (m : ℕ) (logs : List ℕ) (n : ℕ) (h : ReportHeld ps events t ofs m logs n) where
-  abbrev batch : Batch
-  batch = batchOf (eventsIn events t) (linesIn ofs m logs n)
-
-  abbrev table : List Program
-  table = tableIn ps
-
-  whole : batchIn events t ofs m logs n ≡ batch
-  whole =
-      let p : min t 128 ≡ t = omega (arith, h .held .events) in
-      let q : min m 64 ≡ m = omega (arith, h .few) in
-      let r : min n 1024 ≡ n = omega (arith, h .fewer) in
-      λ i. record { trace = firsts (eventAt events) (p i); ofs = firsts (ofAt ofs) (q i); log = firsts (entryAt logs) (r i) }
-
-  below : (prog : ℕ) → known table prog ≡ true → prog < ps .n
-  below prog e = omega (arith, ltb-true prog (length table) e, firsts-length (programAt (ps .table)) (ps .n))
-
-  module _ (e6 : row6 batch ≡ none) (e7 : row7 batch ≡ none) where
-    ready : Ready (known table) batch
-    ready =
-        record {
-          none-to-7 = (h .lines4, h .answered4, e6, e7);
-          programs = λ prog e. omega (arith, below prog e, h .held .programs);
-          objects = h .ranges .objects;
-          counts = h .ranges .counts;
-        }
-
-    pub judged : (f : Fault) (r : _) → r ≡ audited (verdict (f .row) (f .line)) m n → Judges ps events t ofs m logs n f →
-        r ≡ auditedReport table (eventsIn events t) (linesIn ofs m logs n)
-    judged f r g j =
-        let v = subst (λ b. Ready (known table) b → verdict (f .row) (f .line) ≡ firstFault (checks (ps .table) b)) whole (j (known table)) ready in
-        let s = replays-same limit (ps .table) table (known table)
-        (λ (prog : ℕ). λ (e : known table prog ≡ true). same-code (ps .table) (ps .n) prog (below prog e) (h .held .bounded prog (below prog e)))
-        atStart batch (row4-order (known table) (eventsIn events t) .0 (h .lines4) .1) 1 (batch .ofs) in
-        let c : m ≡ count isRequest (eventsIn events t) =
-        sym (firsts-length (ofAt ofs) m) ∙ matching-count (eventsIn events t) (firsts (ofAt ofs) m) (row6-matching batch .0 e6) in
-        let o : n ≡ length (firsts (entryAt logs) n) = sym (firsts-length (entryAt logs) n) in
-        let w = v ∙ ap (λ cs. firstFault (check 8 (row8 batch) ∷ check 9 (row9 batch) ∷ cs)) s
-        ∙ past-7 table (eventsIn events t) (linesIn ofs m logs n) e6 e7 in
-        g ∙ (λ i. audited (w i) (c i) (o i))
-
 -- ── rows 4 and 5 ──
 module _ (table : List Program) (events : List Event) (report : Read Report) where
   abbrev lines : Report
@@ -175,33 +146,107 @@ module _ (table : List Program) (events : List Event) (report : Read Report) whe
           ∙ ap (counted table events lines)
           (none-holds 4 4 5 (row4 (known table) events) (row4Open events) (badLine report) behind5 d f (ap badLine e))
 
--- the program numbers that are known, by their count in the array
-pub known-in : (ps : Programs) (events : List ℕ) (t : ℕ) (o : Option ℕ) → row4 (λ prog. ltb prog (ps .n)) (eventsIn events t) ≡ o →
-    row4 (known (tableIn ps)) (eventsIn events t) ≡ o
-known-in ps events t o e = ap (λ k. row4 (λ prog. ltb prog k) (eventsIn events t)) (firsts-length (programAt (ps .table)) (ps .n)) ∙ e
+-- the program numbers that are known, by their count
+known-in : (table : List Program) (k : ℕ) (events : List Event) (o : Option ℕ) → length table ≡ k → row4 (λ prog. ltb prog k) events ≡ o →
+    row4 (known table) events ≡ o
+known-in table k events o l e = ap (λ n. row4 (λ prog. ltb prog n) events) l ∙ e
 
 -- what the reader of the report says
 module _ (s : List ℕ) (r : ReportLines) (ofs logs : List ℕ) (h : ReportIs s r ofs logs) where
-  pub report-bad : (line : ℕ) → r ≡ BadLine line → readReport s ≡ unreadable line
+  report-bad : (line : ℕ) → r ≡ BadLine line → readReport s ≡ unreadable line
   unfolding reportIn
   report-bad line e = sym (h .read) ∙ ap (reportIn ofs logs) e
 
   module _ (m n : ℕ) (e : r ≡ Counts m n) where
-    pub report-read : readReport s ≡ readable (linesIn ofs m logs n)
+    report-read : readReport s ≡ readable (linesIn ofs m logs n)
     unfolding reportIn
     report-read = sym (h .read) ∙ ap (reportIn ofs logs) e
 
-    pub report-held : (ps : Programs) (events : List ℕ) (t : ℕ) → TraceHeld ps t → row4 (known (tableIn ps)) (eventsIn events t) ≡ none →
-        row4Open (eventsIn events t) ≡ none → ReportHeld ps events t ofs m logs n
-    report-held ps events t g d f =
-        record {
-          held = g;
-          lines4 = d;
-          answered4 = f;
-          few = subst (λ r. ofsIn r ≤ 64) e (h .few);
-          fewer = subst (λ r. logsIn r ≤ 1024) e (h .fewer);
-          ranges = report-in-range s (linesIn ofs m logs n) report-read;
-        }
+    pub report-few : (m ≤ 64) × (n ≤ 1024)
+    report-few = (subst (λ r. ofsIn r ≤ 64) e (h .few), subst (λ r. logsIn r ≤ 1024) e (h .fewer))
+
+-- ── rows 4 to 7, where k programs are known ──
+module _ (k : ℕ) (events : List Event) (s : List ℕ) where
+  pub refused-4 : (line : ℕ) → row4 (λ prog. ltb prog k) events ≡ some line →
+      (table : List Program) → length table ≡ k → refusal 4 line ≡ auditedTrace table events (readReport s)
+  refused-4 line e table l = at-4 table events (readReport s) line (known-in table k events (some line) l e)
+
+  module _ (d : row4 (λ prog. ltb prog k) events ≡ none) where
+    pub refused-4-open : (line : ℕ) → row4Open events ≡ some line →
+        (table : List Program) → length table ≡ k → refusal 4 line ≡ auditedTrace table events (readReport s)
+    refused-4-open line e table l = at-4-open table events (readReport s) (known-in table k events none l d) line e
+
+    module _ (f : row4Open events ≡ none) (r : ReportLines) (ofs logs : List ℕ) (h : ReportIs s r ofs logs) where
+      pub refused-5 : (line : ℕ) → r ≡ BadLine line →
+          (table : List Program) → length table ≡ k → refusal 5 line ≡ auditedTrace table events (readReport s)
+      refused-5 line e table l =
+          at-5 table events (readReport s) (known-in table k events none l d) f line (report-bad s r ofs logs h line e)
+
+      pub past-report : (m n : ℕ) → r ≡ Counts m n → (c : Checked) → ReportChecked events ofs m logs n c → BatchChecked k events s ofs logs c
+      past-report m n e (Refused row line) g =
+          λ table l. g table ∙ past-5 table events (readReport s) (known-in table k events none l d) f _ (report-read s r ofs logs h m n e)
+      past-report m n e (checked.Counts p q) g =
+          let b = report-few s r ofs logs h m n e in
+          rw (g .0, g .1)
+          (record {
+            lines4 = d;
+            answered4 = f;
+            read = report-read s r ofs logs h m n e;
+            few = b .0;
+            fewer = b .1;
+            unbroken = g .2;
+          })
+
+-- ── rows 8 to 12 of what stands in the arrays ──
+module _ (ps : Programs) (events : List ℕ) (t : ℕ) (traced : TraceHeld ps t) (s ofs : List ℕ) (m : ℕ) (logs : List ℕ) (n : ℕ)
+    (h : BatchHeld (ps .n) (eventsIn events t) s ofs m logs n) where
+  abbrev batch : Batch
+  batch = batchOf (eventsIn events t) (linesIn ofs m logs n)
+
+  abbrev table : List Program
+  table = tableIn ps
+
+  counted-in : length table ≡ ps .n
+  counted-in = firsts-length (programAt (ps .table)) (ps .n)
+
+  lines4 : row4 (known table) (eventsIn events t) ≡ none
+  lines4 = known-in table (ps .n) (eventsIn events t) none counted-in (h .lines4)
+
+  whole : batchIn events t ofs m logs n ≡ batch
+  whole =
+      let p : min t 128 ≡ t = omega (arith, traced .events) in
+      let q : min m 64 ≡ m = omega (arith, h .few) in
+      let r : min n 1024 ≡ n = omega (arith, h .fewer) in
+      λ i. record { trace = firsts (eventAt events) (p i); ofs = firsts (ofAt ofs) (q i); log = firsts (entryAt logs) (r i) }
+
+  below : (prog : ℕ) → known table prog ≡ true → prog < ps .n
+  below prog e = omega (arith, ltb-true prog (length table) e, counted-in)
+
+  ready : Ready (known table) batch
+  ready =
+      let r = report-in-range s (linesIn ofs m logs n) (h .read) in
+      record {
+        none-to-7 = (lines4, h .answered4, h .unbroken .row6-none, h .unbroken .row7-none);
+        programs = λ prog e. omega (arith, below prog e, traced .programs);
+        objects = r .objects;
+        counts = r .counts;
+      }
+
+  pub judged : (f : Fault) (r : _) → r ≡ audited (verdict (f .row) (f .line)) m n → Judges ps events t ofs m logs n f →
+      r ≡ auditedTrace table (eventsIn events t) (readReport s)
+  judged f r g j =
+      let v = subst (λ b. Ready (known table) b → verdict (f .row) (f .line) ≡ firstFault (checks (ps .table) b)) whole (j (known table)) ready in
+      let w = replays-same limit (ps .table) table (known table)
+      (λ (prog : ℕ). λ (e : known table prog ≡ true). same-code (ps .table) (ps .n) prog (below prog e) (traced .bounded prog (below prog e)))
+      atStart batch (row4-order (known table) (eventsIn events t) .0 lines4 .1) 1 (batch .ofs) in
+      let c : m ≡ count isRequest (eventsIn events t) =
+      sym (firsts-length (ofAt ofs) m)
+      ∙ matching-count (eventsIn events t) (firsts (ofAt ofs) m) (row6-matching batch .0 (h .unbroken .row6-none)) in
+      let o : n ≡ length (firsts (entryAt logs) n) = sym (firsts-length (entryAt logs) n) in
+      let u = v ∙ ap (λ cs. firstFault (check 8 (row8 batch) ∷ check 9 (row9 batch) ∷ cs)) w
+      ∙ past-7 table (eventsIn events t) (linesIn ofs m logs n) (h .unbroken .row6-none) (h .unbroken .row7-none) in
+      g ∙ (λ i. audited (u i) (c i) (o i))
+      ∙ past-5 table (eventsIn events t) (readReport s) lines4 (h .answered4) (linesIn ofs m logs n) (h .read)
 
 -- ── rows 1 to 3 ──
 module _ (table : List Program) (trace : Read (List Event)) (report : Read Report) where
@@ -239,6 +284,9 @@ module _ (s trace report : List ℕ) (ps : Programs) (h : ProgramsIs s ps) where
       ap (λ p. auditedOf p (readTrace trace) (readReport report)) u
 
   module _ (ok : ps .ok ≡ true) where
+    trace-held : (l : Lines) (events : List ℕ) → TraceIs trace l events → (t : ℕ) → l ≡ Readable t → TraceHeld ps t
+    trace-held l events g t d = record { programs = h .few; bounded = h .bounded; events = subst (λ l. held.linesIn l ≤ 128) d (g .few) }
+
     module _ (r : Ruling) (e : r ≡ rulingOf (firsts (programAt (ps .table)) (min (ps .n) 16))) where
       ruled : brokenLine r ≡ row2 (tableIn ps)
       ruled =
@@ -261,15 +309,25 @@ module _ (s trace report : List ℕ) (ps : Programs) (h : ProgramsIs s ps) where
             (sym (g .read) ∙ ap (readIn (eventAt events)) d)
             ∙ whole-text
 
-        pub past-3 : (t : ℕ) → l ≡ Readable t → auditedTrace (tableIn ps) (eventsIn events t) (readReport report) ≡ auditOf s trace report
+        past-3 : (t : ℕ) → l ≡ Readable t → auditedTrace (tableIn ps) (eventsIn events t) (readReport report) ≡ auditOf s trace report
         unfolding readIn
         past-3 t d =
             trace-read (tableIn ps) (readTrace trace) (readReport report) (kept r (row2 (tableIn ps)) ruled k) (eventsIn events t)
             (sym (g .read) ∙ ap (readIn (eventAt events)) d)
             ∙ whole-text
 
-    pub trace-held : (l : Lines) (events : List ℕ) → TraceIs trace l events → (t : ℕ) → l ≡ Readable t → TraceHeld ps t
-    trace-held l events g t d = record { programs = h .few; bounded = h .bounded; events = subst (λ l. held.linesIn l ≤ 128) d (g .few) }
+        module _ (t : ℕ) (d : l ≡ Readable t) (ofs logs : List ℕ) (c : Checked)
+            (q : BatchChecked (ps .n) (eventsIn events t) report ofs logs c) where
+          pub at-4-to-7 : (row line : ℕ) → c ≡ Refused row line → refusal row line ≡ auditOf s trace report
+          at-4-to-7 row line z =
+              let told = subst (BatchChecked (ps .n) (eventsIn events t) report ofs logs) z q in
+              told (tableIn ps) (firsts-length (programAt (ps .table)) (ps .n)) ∙ past-3 t d
+
+          pub past-4-to-7 : (m n : ℕ) → c ≡ checked.Counts m n → (f : Fault) (x : Audited) → x ≡ audited (verdict (f .row) (f .line)) m n →
+              Judges ps events t ofs m logs n f → x ≡ auditOf s trace report
+          past-4-to-7 m n z f x w j =
+              let told = subst (BatchChecked (ps .n) (eventsIn events t) report ofs logs) z q in
+              judged ps events t (trace-held l events g t d) report ofs m logs n told f x w j ∙ past-3 t d
 
 -- both promises of the audit
 pub promised : (s trace report : List ℕ) (r : Audited) → r ≡ auditOf s trace report →

@@ -6,10 +6,10 @@ use mathlib.Core.Option.{none}
 use mathlib.Core.Path.{_≡_}
 use lib.Dec.{eqb, ltb}
 use lib.ListN.{length, getD}
-use Rattle.text.specs.Held.{eventAt, ofAt, entryAt, noProgram, Bounded, tableIn}
-use Rattle.text.specs.Report.{Report}
+use Rattle.text.specs.Held.{eventAt, ofAt, entryAt, noProgram, Bounded}
+use Rattle.text.specs.Report.{Report, readReport}
 use Rattle.text.specs.Rows.{firsts}
-use Rattle.text.specs.Text.{Read, count}
+use Rattle.text.specs.Text.{Read, readable, count}
 use Rattle.text.specs.Trace.{isRequest}
 use Rattle.text.specs.declared.programs.Program.{Program}
 use Rattle.text.specs.declared.programs.Programs.{Programs}
@@ -17,7 +17,7 @@ use Rattle.text.specs.declared.report.Of.{Of}
 use Rattle.text.specs.declared.trace.Event.the-variants.{Request, Response}
 use Rattle.text.specs.declared.trace.Event.{Event}
 use Rattle.ordering.specs.Lists.{All}
-use Rattle.model.specs.Audit.{row4, row4Open, reportChecks}
+use Rattle.model.specs.Audit.{row4, row4Open, row6, row7, reportChecks}
 use Rattle.model.specs.Batch.{Batch, named, countOf}
 use Rattle.model.specs.Checks.{check, firstFault}
 use Rattle.machine.specs.Instance.{known, machine}
@@ -25,6 +25,8 @@ use Rattle.machine.specs.Objects.{atStart}
 use Rattle.machine.specs.Processes.{limit}
 use Rattle.verifier.specs.Faults.{badLine, contents, batchOf, audited}
 use Rattle.verifier.specs.declared.Audited.{Audited}
+use Rattle.verifier.specs.declared.audits.Checked.{Checked}
+use Rattle.verifier.specs.declared.audits.Checked.the-variants.{Refused, Counts}
 
 -- whether one of several passes a test
 abbrev pub any : {A : Type 0} → (A → Bool) → List A → Bool
@@ -64,6 +66,15 @@ pub record Packed (logs : List ℕ) (n : ℕ) (column : List ℕ) : Type 0 where
   pub few : n ≤ 1024
   pub claim : (i : ℕ) → i < n → getD column i 0 ≡ packed (entryAt logs i .rid) (entryAt logs i .num)
 
+-- whether p is one of n numbers of a column, from j on
+abbrev pub occurs : (column : List ℕ) (p j n : ℕ) → Bool
+occurs column p j n = any (λ x. eqb x p) (firsts (λ k. getD column (j + k) 0) n)
+
+-- p is none of the first j of i numbers
+pub record Without (column : List ℕ) (p i j : ℕ) : Type 0 where
+  pub within : j ≤ i
+  pub other : (k : ℕ) → k < j → getD column k 0 ≡ p → ⊥
+
 -- a report that stands in arrays
 abbrev pub reported : (ofs : List ℕ) (m : ℕ) (logs : List ℕ) (n : ℕ) → Batch
 reported ofs m logs n = record { trace = []; ofs = firsts (ofAt ofs) m; log = firsts (entryAt logs) n }
@@ -90,15 +101,6 @@ pub record InRange (r : Report) : Type 0 where
   pub objects : All (λ l. l .op .object < 16) (r .log)
   pub counts : All (λ x. x .count ≤ 256) (r .ofs)
 
--- and a report, where row 4 does not hold
-pub record ReportHeld (ps : Programs) (events : List ℕ) (t : ℕ) (ofs : List ℕ) (m : ℕ) (logs : List ℕ) (n : ℕ) : Type 0 where
-  pub held : TraceHeld ps t
-  pub lines4 : row4 (known (tableIn ps)) (eventsIn events t) ≡ none
-  pub answered4 : row4Open (eventsIn events t) ≡ none
-  pub few : m ≤ 64
-  pub fewer : n ≤ 1024
-  pub ranges : InRange (linesIn ofs m logs n)
-
 -- the audit from row 6 on, and from row 4 on
 abbrev pub auditedReport : List Program → List Event → Report → Audited
 auditedReport table events lines =
@@ -114,3 +116,30 @@ auditedTrace table events report =
     ∷ check 5 (badLine report)
     ∷ reportChecks (machine limit table) atStart (batchOf events lines)))
     (count isRequest events) (length (lines .log))
+
+-- ── a batch as far as row 7 ──
+-- neither row 6 nor row 7 holds
+pub record Unbroken (events : List Event) (lines : Report) : Type 0 where
+  pub row6-none : row6 (batchOf events lines) ≡ none
+  pub row7-none : row7 (batchOf events lines) ≡ none
+
+-- rows 6 and 7: a refusal, which is that of any programs, or the counts
+abbrev pub ReportChecked : List Event → (ofs : List ℕ) (m : ℕ) (logs : List ℕ) (n : ℕ) → Checked → Type 0
+ReportChecked events ofs m logs n (Refused row line) =
+    (table : List Program) → refusal row line ≡ auditedReport table events (linesIn ofs m logs n)
+ReportChecked events ofs m logs n (Counts p q) = (p ≡ m) × (q ≡ n) × Unbroken events (linesIn ofs m logs n)
+
+-- a report that was read, where no row from 4 to 7 holds
+pub record BatchHeld (k : ℕ) (events : List Event) (report ofs : List ℕ) (m : ℕ) (logs : List ℕ) (n : ℕ) : Type 0 where
+  pub lines4 : row4 (λ prog. ltb prog k) events ≡ none
+  pub answered4 : row4Open events ≡ none
+  pub read : readReport report ≡ readable (linesIn ofs m logs n)
+  pub few : m ≤ 64
+  pub fewer : n ≤ 1024
+  pub unbroken : Unbroken events (linesIn ofs m logs n)
+
+-- rows 4 to 7: a refusal, which is that of any k programs, or a batch that stands in the arrays
+abbrev pub BatchChecked : (k : ℕ) → List Event → (report ofs logs : List ℕ) → Checked → Type 0
+BatchChecked k events report ofs logs (Refused row line) =
+    (table : List Program) → length table ≡ k → refusal row line ≡ auditedTrace table events (readReport report)
+BatchChecked k events report ofs logs (Counts m n) = BatchHeld k events report ofs m logs n

@@ -1,4 +1,5 @@
-// The audit of three texts: one row after the other, up to the first fault.
+// The audit of three texts: one row after the other, up to the first fault. A struct cannot be lent, and a call that takes one copies it,
+// so the program table stays with `audit`, and only the rules and the replay get it.
 use crate::Audited;
 use crate::report_rows::pack_claims;
 use crate::report_rows::row_6;
@@ -10,19 +11,18 @@ use machine::check_rules;
 use replay::Fault;
 use replay::judge;
 use text::Lines;
-use text::Programs;
 use text::ReportLines;
 use text::read_programs;
 use text::read_report;
 use text::read_trace;
 ghost use mathlib.Core.Path.{_≡_};
 ghost use mathlib.Core.Logic.{_↔_};
-ghost use Rattle.text.specs.Held.{tableIn};
-ghost use Rattle.text.specs.Report.{readReport};
+ghost use Prim.Native.Nat.{_≤_};
+ghost use lib.ListN.{length};
 ghost use Rattle.model.specs.Checks.{verdict};
 ghost use Rattle.verifier.specs.Accepts.{Accepts};
 ghost use Rattle.verifier.specs.Faults.{audited, auditOf};
-ghost use Rattle.verifier.specs.Steps.{refusal, TraceHeld, eventsIn, linesIn, auditedTrace, ReportHeld, auditedReport};
+ghost use Rattle.verifier.specs.Steps.{refusal, eventsIn, ReportChecked, BatchChecked};
 
 // A refusal, whose counts are 0.
 fn refused(verdict: u64, line: usize) -> Audited
@@ -56,62 +56,71 @@ fn result(f: Fault, requests: usize, operations: usize) -> Audited
     }
 }
 
-// Rows 6 to 12.
-fn audit_report(
-    ps: Programs,
+// A batch as far as row 7: the first fault, or how many `of` and how many `log` lines it has.
+pub enum Checked {
+    Refused(u64, usize),
+    Counts(usize, usize),
+}
+
+// Rows 6 and 7.
+fn check_report(
     events: &[u64; 640],
     t: usize,
     ofs: &[u64; 192],
     m: usize,
     logs: &[u64; 6144],
     n: usize,
-) -> Audited
-    requires { ⌜ ReportHeld ps (now events) t (now ofs) m (now logs) n ⌝ }
-    ensures { λ r. ⌜ r
-        ≡ auditedReport (tableIn ps) (eventsIn (now (events .entry)) t) (linesIn (now (ofs .entry)) m (now (logs .entry)) n) ⌝ }
+) -> Checked
+    requires { ⌜ (m ≤ 64) × (n ≤ 1024) ⌝ }
+    ensures { λ r. ⌜ ReportChecked (eventsIn (now (events .entry)) t) (now (ofs .entry)) m (now (logs .entry)) n r ⌝ }
 {
     match row_6(events, t, ofs, m) {
         Ruling::Broken(line) => {
-            return refused(6, line);
+            return Checked::Refused(6, line);
         }
         Ruling::Kept => {}
     }
-    let mut column = [0u64; 1024];
+    let mut column = [0u32; 1024];
     pack_claims(logs, n, &mut column);
     match row_7(ofs, m, logs, n, &column) {
         Ruling::Broken(line) => {
-            return refused(7, line);
+            return Checked::Refused(7, line);
         }
         Ruling::Kept => {}
     }
-    result(judge(ps, events, t, ofs, m, logs, n), m, n)
+    Checked::Counts(m, n)
 }
 
-// Rows 4 to 12.
-fn audit_trace(ps: Programs, events: &[u64; 640], t: usize, report: &[u8]) -> Audited
-    requires { ⌜ TraceHeld ps t ⌝ }
-    ensures { λ r. ⌜ r ≡ auditedTrace (tableIn ps) (eventsIn (now (events .entry)) t) (readReport (now (report .entry))) ⌝ }
+// Rows 4 to 7, where so many programs are known. The report goes into ofs and logs.
+fn check_batch(
+    programs: usize,
+    events: &[u64; 640],
+    t: usize,
+    report: &[u8],
+    ofs: &mut [u64; 192],
+    logs: &mut [u64; 6144],
+) -> Checked
+    requires { ⌜ (length (now ofs) ≡ 192) × (length (now logs) ≡ 6144) ⌝ }
+    ensures { λ r. ⌜ BatchChecked programs (eventsIn (now (events .entry)) t) (now (report .entry)) (now (ofs .exit)) (now (logs .exit)) r ⌝ }
 {
-    match row_4(events, t, ps.n) {
+    match row_4(events, t, programs) {
         Ruling::Broken(line) => {
-            return refused(4, line);
+            return Checked::Refused(4, line);
         }
         Ruling::Kept => {}
     }
     match row_4_open(events, t) {
         Ruling::Broken(line) => {
-            return refused(4, line);
+            return Checked::Refused(4, line);
         }
         Ruling::Kept => {}
     }
-    let mut ofs = [0u64; 192];
-    let mut logs = [0u64; 6144];
-    match read_report(report, &mut ofs, &mut logs) {
+    match read_report(report, ofs, logs) {
         ReportLines::BadLine(line) => {
-            return refused(5, line);
+            return Checked::Refused(5, line);
         }
         ReportLines::Counts(m, n) => {
-            return audit_report(ps, events, t, &ofs, m, &logs, n);
+            return check_report(events, t, ofs, m, logs, n);
         }
     }
 }
@@ -137,7 +146,16 @@ pub fn audit(programs: &[u8], trace: &[u8], report: &[u8]) -> Audited
             return refused(3, line);
         }
         Lines::Readable(t) => {
-            return audit_trace(ps, &events, t, report);
+            let mut ofs = [0u64; 192];
+            let mut logs = [0u64; 6144];
+            match check_batch(ps.n, &events, t, report, &mut ofs, &mut logs) {
+                Checked::Refused(row, line) => {
+                    return refused(row, line);
+                }
+                Checked::Counts(m, n) => {
+                    return result(judge(ps, &events, t, &ofs, m, &logs, n), m, n);
+                }
+            }
         }
     }
 }

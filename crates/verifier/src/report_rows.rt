@@ -3,16 +3,19 @@ use machine::Ruling;
 use text::Event;
 use text::entry_at;
 use text::event_at;
+use text::first_slots;
 use text::of_at;
+use text::slot_of;
 ghost use mathlib.Core.Path.{_≡_};
-ghost use Prim.Native.Nat.{_<_, _≤_};
+ghost use Prim.Native.Nat.{_+_, _<_, _≤_};
 ghost use lib.ListN.{length, getD};
 ghost use Rattle.text.specs.Held.{eventAt, ofAt, entryAt};
 ghost use Rattle.text.specs.Rows.{firsts};
+ghost use Rattle.text.specs.Slots.{Slots};
 ghost use Rattle.model.specs.Audit.{row6From, row7};
 ghost use Rattle.model.specs.Batch.{claims};
 ghost use Rattle.machine.specs.Rules.{brokenLine};
-ghost use Rattle.verifier.specs.Steps.{beyond, packed, Packed, reported};
+ghost use Rattle.verifier.specs.Steps.{beyond, packed, Packed, occurs, Without, reported};
 
 // Row 6: `of` lines are not one per request in arrival order.
 pub(crate) fn row_6(events: &[u64; 640], t: usize, ofs: &[u64; 192], m: usize) -> Ruling
@@ -55,32 +58,30 @@ pub(crate) fn row_6(events: &[u64; 640], t: usize, ofs: &[u64; 192], m: usize) -
 }
 
 // Whether no count allows operation num of request rid: the rid is unknown, or num is 0 or above its count.
-fn outside(ofs: &[u64; 192], m: usize, rid: u64, num: u64) -> bool
+fn outside(ofs: &[u64; 192], m: usize, heads: &[u8; 256], rid: u64, num: u64) -> bool
+    requires { ⌜ Slots (now ofs) m (now heads) ⌝ }
     ensures { λ r. ⌜ r ≡ beyond (firsts (ofAt (now (ofs .entry))) m) rid num ⌝ }
 {
-    let mut j: usize = 0;
-    while j < m {
-        let x = of_at(ofs, j);
-        if x.rid == rid {
-            if num == 0 {
-                return true;
-            }
-            return x.count < num;
-        }
-        j += 1;
+    let s = slot_of(ofs, m, heads, rid);
+    if m <= s {
+        return true;
     }
-    true
+    if num == 0 {
+        return true;
+    }
+    let x = of_at(ofs, s);
+    x.count < num
 }
 
 // A claim in one number: exact where rid and num are in their ranges, so that most lines are told apart by one comparison.
-fn pack(rid: u64, num: u64) -> u64
+fn pack(rid: u64, num: u64) -> u32
     ensures { λ r. ⌜ r ≡ packed rid num ⌝ }
 {
-    rid % 65536 * 512 + num % 512
+    (rid % 65536 * 512 + num % 512) as u32
 }
 
 // The claims of the first n log lines.
-pub(crate) fn pack_claims(logs: &[u64; 6144], n: usize, column: &mut [u64; 1024])
+pub(crate) fn pack_claims(logs: &[u64; 6144], n: usize, column: &mut [u32; 1024])
     requires { ⌜ (n ≤ 1024) × (length (now column) ≡ 1024) ⌝ }
     ensures { λ _. ⌜ Packed (now (logs .entry)) n (now (column .exit)) ⌝ }
 {
@@ -94,7 +95,7 @@ pub(crate) fn pack_claims(logs: &[u64; 6144], n: usize, column: &mut [u64; 1024]
 }
 
 // Whether log line j claims operation num of request rid, where p is that claim packed.
-fn claims_at(logs: &[u64; 6144], column: &[u64; 1024], j: usize, p: u64, rid: u64, num: u64) -> bool
+fn claims_at(logs: &[u64; 6144], column: &[u32; 1024], j: usize, p: u32, rid: u64, num: u64) -> bool
     requires { ⌜ j < 1024 ⌝ }
     requires { ⌜ getD (now column) j 0 ≡ packed (entryAt (now logs) j .rid) (entryAt (now logs) j .num) ⌝ }
     requires { ⌜ p ≡ packed rid num ⌝ }
@@ -107,28 +108,64 @@ fn claims_at(logs: &[u64; 6144], column: &[u64; 1024], j: usize, p: u64, rid: u6
     if l.rid == rid { l.num == num } else { false }
 }
 
+// Whether one of the 16 claims from j on is p. No branch parts them, so that four are compared at a time.
+fn among(column: &[u32; 1024], j: usize, p: u32) -> bool
+    requires { ⌜ j + 16 ≤ 1024 ⌝ }
+    ensures { λ r. ⌜ r ≡ occurs (now (column .entry)) p j 16 ⌝ }
+{
+    let mut found = false;
+    let mut k: usize = 0;
+    while k < 16 {
+        found = (column[j + k] == p) | found;
+        k += 1;
+    }
+    found
+}
+
+// How many of the first i claims are passed by blocks of 16 of which none is p. The last block may lie over the one before.
+fn passed(column: &[u32; 1024], i: usize, p: u32) -> usize
+    requires { ⌜ i ≤ 1024 ⌝ }
+    ensures { λ r. ⌜ Without (now (column .entry)) p i r ⌝ }
+{
+    let mut j: usize = 0;
+    while 16 <= i - j {
+        if among(column, j, p) {
+            return j;
+        }
+        j += 16;
+    }
+    if i < 16 {
+        return j;
+    }
+    if among(column, i - 16, p) {
+        return j;
+    }
+    i
+}
+
 // Row 7: log line's rid unknown, num 0 or above count, or claimed before.
 pub(crate) fn row_7(
     ofs: &[u64; 192],
     m: usize,
     logs: &[u64; 6144],
     n: usize,
-    column: &[u64; 1024],
+    column: &[u32; 1024],
 ) -> Ruling
     requires { ⌜ m ≤ 64 ⌝ }
     requires { ⌜ Packed (now logs) n (now column) ⌝ }
     ensures { λ r. ⌜ brokenLine r ≡ row7 (reported (now (ofs .entry)) m (now (logs .entry)) n) ⌝ }
 {
+    let heads = first_slots(ofs, m);
     let mut i: usize = 0;
     'lines: while i < n {
         let l = entry_at(logs, i);
         let rid = l.rid;
         let num = l.num;
-        if outside(ofs, m, rid, num) {
+        if outside(ofs, m, &heads, rid, num) {
             break 'lines;
         }
         let p = pack(rid, num);
-        let mut j: usize = 0;
+        let mut j = passed(column, i, p);
         while j < i {
             if claims_at(logs, column, j, p, rid, num) {
                 break 'lines;

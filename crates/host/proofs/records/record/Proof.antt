@@ -1,5 +1,6 @@
 -- `record` meets its contract.
 use Prim.Native.Nat.{ℕ}
+use mathlib.Core.Path.{refl}
 use lib.ListN.{length-replicate}
 use borrow.Author.Tests.{not-true, not-false}
 use Rattle.host.proofs.Recording.{refuses, record-as, at-1, at-2, at-13, past-13, scheduled, promised}
@@ -36,29 +37,34 @@ returns-3 c =
     (c .before .before .before .before .read-schedule .ensures) _ (c .before .before .line2 .given .1))
     (c .refused3 .ensures))
 
+lay-out-requires : tie.Need-lay-out-requires
+lay-out-requires c κs =
+    let p = c .before .before .before .before .before .before .before .before .before .before .before .before in
+    (p .read-programs .ensures .few, refl)
+
 record-moves-requires : tie.Need-record-moves-requires
 record-moves-requires c κs =
-    let r = c .before .before .before .before .before .before .before .before .before .before .before .before in
+    let at-n = c .before .before .before .before .before .before .before .before in
+    let at-schedule = at-n .before .before in
+    let at-told = at-schedule .before .before .before in
+    let r = at-told .before .before in
     let p = r .before .before .before in
     scheduled _ _ 0 0 _ (p .read-programs .ensures) (not-false _ (r .before .if1 .left)) _ (r .check-rules .ensures)
-    (c .before .before .before .before .before .before .before .before .before .before .enum-told .given .1) _ _ _
-    (c .before .before .before .before .before .before .before .read-schedule .ensures) _
-    (c .before .before .before .before .before .n .given .1)
+    (at-told .enum-told .given .1) _ _ _ (at-schedule .read-schedule .ensures) _ (at-n .n .given .1)
 
 returns-4 : tie.Need-returns-4
 returns-4 c =
     let at-record-moves = c .before .before .before .before in
-    let at-n = at-record-moves .before .before .before .before .before .before in
-    let at-before = at-n .before in
-    let at-before′ = at-before .before .before .before .before .before in
-    let r = at-before′ .before in
+    let at-lay-out = at-record-moves .before .before .before .before .before .before in
+    let at-n = at-lay-out .before .before .before in
+    let at-schedule = at-n .before .before in
+    let at-told = at-schedule .before .before .before in
+    let r = at-told .before .before in
     let p = r .before .before .before in
-    let s = at-before .before in
     promised _ _ _ _ _ _ _
     (record-as _ _ _ _ _ _ _
     (past-13 _ _ _ _ _ (p .read-programs .ensures) (not-false _ (r .before .if1 .left)) _ (r .check-rules .ensures)
-    (s .before .before .before .enum-told .given .1) _ _ _ (s .read-schedule .ensures) _
-    (at-n .n .given .1))
+    (at-told .enum-told .given .1) _ _ _ (at-schedule .read-schedule .ensures) _ (at-n .n .given .1) _ (at-lay-out .lay-out .ensures))
     (at-record-moves .record-moves .ensures))
 
 pub record-spec : {M : Type 1} → statement M
@@ -78,6 +84,7 @@ record-spec =
     (λ c κs. search needs)
     returns-3
     (λ c. search needs)
+    lay-out-requires
     record-moves-requires
     (λ c. search needs)
     (λ c. search needs)

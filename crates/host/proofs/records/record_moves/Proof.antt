@@ -9,7 +9,7 @@ use Rattle.host.proofs.records.record_moves.Tie as tie
 
 run-moves-requires : tie.Need-run-moves-requires
 run-moves-requires c κs =
-    ready _ _ _ _ _ _ _ _ _ (c .before .before .before .before .before .before .before .pre) refl (length-replicate {A = ℕ} 768 0)
+    ready _ _ _ _ _ _ _ _ (c .before .before .before .before .before .before .before .pre) refl (length-replicate {A = ℕ} 768 0)
     (length-replicate {A = ℕ} 192 0)
     (length-replicate {A = ℕ} 640 0) (length-replicate {A = ℕ} 6144 0)
 

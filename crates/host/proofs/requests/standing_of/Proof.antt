@@ -14,11 +14,8 @@ returns-2 c = none-so-high _ _ (c .before .if1 .left) (c .if2 .taken) ∙ ap (st
 
 returns-3 : tie.Need-returns-3
 returns-3 c =
-    let o = c .before .before in
-    let s = c .before .before .before .before .before in
-    open-there _ _ (c .before .before .before .before .if1 .left) (c .before .before .before .if2 .left) _
-    (sym (o .is-open .ensures) ∙ c .before .if3 .taken) (c .progress-at .ensures)
-    ∙ ap (standingIn _) (s .slot-of .ensures)
+    open-there _ _ (c .before .before .before .if1 .left) (c .before .before .if2 .left)
+    (sym (c .before .is-open .ensures) ∙ c .if3 .taken) ∙ ap (standingIn _) (c .before .before .before .before .slot-of .ensures)
 
 returns-4 : tie.Need-returns-4
 returns-4 c =
@@ -33,7 +30,6 @@ standing-of-spec =
     returns
     returns-2
     (λ c. search needs)
-    (λ c κs. search needs)
     (λ c κs. search needs)
     returns-3
     returns-4)

@@ -8,18 +8,18 @@ use Rattle.host.proofs.steps.turn.Tie as tie
 
 returns : tie.Need-returns
 returns c =
-    let w = c .before .before .before .before .before .before in
-    let l = w .before .before .before in
+    let w = c .before .before .before .before .before in
+    let l = w .before .before in
     turned _ _ _ _ _ _ _ _ _ _ _ _ _ _ _ _ _ _ _ _ _ _ _ (l .before .before .progress-at .ensures) (l .locals-at .ensures)
-    _ _ (w .advance .ensures) _ (c .before .before .before .next .given .1)
+    (w .advance .ensures) _ (c .before .before .before .next .given .1)
     (record { full = λ h. refl; operates = λ h. absurd (omega (arith, h, c .if1 .taken)) })
 
 returns-2 : tie.Need-returns-2
 returns-2 c =
-    let w = c .before .before .before .before .before .before .before .before .before .before .before .before .before .before in
-    let l = w .before .before .before in
+    let w = c .before .before .before .before .before .before .before .before .before .before .before .before .before in
+    let l = w .before .before in
     turned _ _ _ _ _ _ _ _ _ _ _ _ _ _ _ _ _ _ _ _ _ _ _ (l .before .before .progress-at .ensures) (l .locals-at .ensures)
-    _ _ (w .advance .ensures) _ (c .before .before .before .before .before .before .before .before .before .before .before .next .given .1)
+    (w .advance .ensures) _ (c .before .before .before .before .before .before .before .before .before .before .before .next .given .1)
     (record {
       full = λ h. absurd (omega (arith, h, c .before .before .before .before .before .before .before .before .if1 .left));
       operates = λ h. (_, refl, refl, c .operate .ensures);
@@ -27,10 +27,10 @@ returns-2 c =
 
 returns-3 : tie.Need-returns-3
 returns-3 c =
-    let w = c .before .before .before .before .before .before .before .before in
-    let l = w .before .before .before in
+    let w = c .before .before .before .before .before .before .before in
+    let l = w .before .before in
     turned _ _ _ _ _ _ _ _ _ _ _ _ _ _ _ _ _ _ _ _ _ _ _ (l .before .before .progress-at .ensures) (l .locals-at .ensures)
-    _ _ (w .advance .ensures) _ (c .before .before .before .before .before .next2 .given .1)
+    (w .advance .ensures) _ (c .before .before .before .before .before .next2 .given .1)
     (record {
       after = _;
       on = refl;
@@ -44,10 +44,10 @@ returns-3 c =
 
 returns-4 : tie.Need-returns-4
 returns-4 c =
-    let w = c .before .before .before .before .before .before .before in
-    let l = w .before .before .before in
+    let w = c .before .before .before .before .before .before in
+    let l = w .before .before in
     turned _ _ _ _ _ _ _ _ _ _ _ _ _ _ _ _ _ _ _ _ _ _ _ (l .before .before .progress-at .ensures) (l .locals-at .ensures)
-    _ _ (w .advance .ensures) _ (c .before .before .before .before .enum-told .given .1)
+    (w .advance .ensures) _ (c .before .before .before .before .enum-told .given .1)
     (record {
       after = _;
       on = refl;
@@ -65,7 +65,6 @@ turn-spec =
     (tie.spec
     (λ c κs. search needs)
     (λ c κs. search needs)
-    (λ c. search needs)
     (λ c κs. search needs)
     (λ c. search needs)
     returns

@@ -1,11 +1,12 @@
 -- `lines::writer::put_line` meets its contract.
+use Prim.Native.Nat.{_≤_}
+use mathlib.Core.Logic.{⊎-elim}
 use mathlib.Core.Path.{ap}
-use lib.ListN.{length}
-use Rattle.lines.specs.LineText.{numbersText}
 use native.Mathlib.Omega.{arith}
-use lib.ListN.{take}
+use lib.ListN.{length, take}
 use denote.Ref.{now}
-use Rattle.lines.proofs.LineTexts.{line-length}
+use Rattle.lines.specs.LineText.{numbersText, lineText}
+use Rattle.lines.proofs.LineTexts.{numbers-most, line-length}
 use Rattle.lines.proofs.Puts.{put-short, put-fits}
 use borrow.Author.Needs.{needs}
 use Rattle.lines.proofs.writer.put_line.Statement.{statement}
@@ -20,31 +21,31 @@ returns c =
 
 returns-2 : tie.Need-returns-2
 returns-2 c =
-    let a = c .before .before .before .before .before .before .args in
+    let a = c .before .before .before .before .before .before .before .args in
     let w = now (a .w) in
     let vs = take (a .f .n) (a .f .v) in
-    let e = ap (λ us. length (numbersText us)) (c .before .before .clamped .ensures .1) in
+    let e = ap (λ us. length (numbersText us)) (c .before .before .before .clamped .ensures .1) in
     put-short _ _ (omega (arith, line-length w vs, c .before .widths .ensures .0, e))
 
+-- measured, or the room is enough for any six numbers
+fits : (c : tie.Joined2) →
+    length (lineText (now (c .before .before .before .before .before .args .w)) (take (c .before .clamped .result .n) (c .before .clamped .result .v)))
+    ≤ length (now (c .before .before .before .before .before .args .out))
+fits c =
+    let a = c .before .before .before .before .before .args in
+    let g = c .before .clamped .result in
+    let l = line-length (now (a .w)) (take (g .n) (g .v)) in
+    let m = numbers-most (g .v) (g .n) (λ i. search needs) in
+    ⊎-elim (λ w. omega (arith, l, w .1 .ensures .0)) (λ w. omega (arith, l, m)) (c .if2 .came)
+
 fill-line-requires : tie.Need-fill-line-requires
-fill-line-requires c κs =
-    let a = c .before .before .before .before .before .before .before .args in
-    let g = c .before .before .before .clamped .result in (
-      c .before .before .before .clamped .ensures .0,
-      omega
-          (arith, line-length (now (a .w)) (take (g .n) (g .v)), c .before .before .widths .ensures .0),
-    )
+fill-line-requires c κs = (c .before .before .clamped .ensures .0, fits (c .before))
 
 returns-3 : tie.Need-returns-3
 returns-3 c =
-    let a = c .before .before .before .before .before .before .before .before .before .before .args in
-    let g = c .before .before .before .before .before .before .clamped .result in
     let f = c .before .before .fill-line in
-    rw (← c .before .before .before .before .before .before .clamped .ensures .1)
-    (put-fits _ _ _ _
-    (omega (arith, line-length (now (a .w)) (take (g .n) (g .v)), c .before .before .before .before .before .widths .ensures .0))
-    (f .ensures .0)
-    (f .ensures .1))
+    let j = c .before .before .before .before in
+    rw (← j .before .clamped .ensures .1) (put-fits _ _ _ _ (fits j) (f .ensures .0) (f .ensures .1))
 
 pub put-line-spec : {M : Type 1} → statement M
 put-line-spec =

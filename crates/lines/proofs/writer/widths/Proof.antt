@@ -1,21 +1,26 @@
 -- `lines::writer::widths` meets its contract.
-use Prim.Native.Nat.{_+_, _*_, _-_, _≤_}
+use Prim.Native.Nat.{_+_, _-_, _≤_}
 use mathlib.Core.Path.{_≡_, ap}
 use native.Mathlib.Omega.{arith}
 use lib.ListN.{length, take, drop, length-append}
 use Rattle.lines.specs.LineText.{numbersText}
-use Rattle.lines.proofs.LineTexts.{numbers-next, numbers-done}
+use Rattle.lines.proofs.LineTexts.{numbers-next, numbers-done, numbers-most}
 use borrow.Author.Needs.{needs}
 use Rattle.lines.proofs.writer.widths.Statement.{statement}
 use Rattle.lines.proofs.writer.widths.Tie as tie
 
 abbrev Inv-loop : tie.InvT-loop
 Inv-loop n v at₀ i₀ at i =
-    (i ≤ n) × (n ≤ 6) × (length v ≡ 6) × (at ≤ 21 * i)
+    (i ≤ n) × (n ≤ 6) × (length v ≡ 6) × (length (numbersText (take n v)) ≤ 126)
     × (at + length (numbersText (drop i (take n v))) ≡ length (numbersText (take n v)))
 
 abbrev μ-loop : tie.MeasureT-loop
 μ-loop n v at₀ i₀ at i = n - i
+
+loop-holds : tie.Need-loop-holds Inv-loop μ-loop
+loop-holds c =
+    let f = c .before .args .f in
+    (search needs, search needs, search needs, omega (arith, numbers-most (f .v) (f .n) (λ i. search needs)), search needs)
 
 loop-again : tie.Need-loop-again Inv-loop μ-loop
 loop-again c =
@@ -36,7 +41,7 @@ widths-spec =
     (tie.spec
     Inv-loop
     μ-loop
-    (λ c. search needs)
+    loop-holds
     (λ c. search needs)
     (λ c. search needs)
     (λ c κs. search needs)

@@ -7,34 +7,34 @@ use borrow.Author.Count.{below-more}
 use borrow.Author.Needs.{needs}
 use borrow.Author.Tests.{eq-eqb, ne-eqb}
 use Rattle.text.specs.Held.{ofAt}
-use Rattle.replay.proofs.Places.{Passed, here, nowhere}
+use Rattle.text.proofs.ScanLaws.{Passed, here, nowhere}
 use Rattle.replay.proofs.lookups.first_of_group.Statement.{statement}
 use Rattle.replay.proofs.lookups.first_of_group.Tie as tie
 
 abbrev Inv-loop : tie.InvT-loop
-Inv-loop ofs m k group i₀ i = (i ≤ m) × Passed (λ i. eqb (ofAt ofs i .group) group) i
+Inv-loop ofs m k group i₀ i = (i ≤ m) × Passed (λ i. eqb (ofAt ofs i .group) group) 0 i
 
 abbrev μ-loop : tie.MeasureT-loop
 μ-loop ofs m k group i₀ i = m - i
 
 loop-holds : tie.Need-loop-holds Inv-loop μ-loop
-loop-holds c = (omega arith, λ k h. absurd (omega arith))
+loop-holds c = (omega arith, λ k h _. absurd (omega arith))
 
 returns : tie.Need-returns Inv-loop μ-loop
 returns c =
     rw (sym (c .before .before .before .before .before .of-at .ensures))
-    (here _ _ _ (c .before .before .before .before .loop .inv .1) (rw (sym (c .before .before .of-at2 .ensures))
+    (here _ _ _ _ (c .before .before .before .before .loop .inv .1) (omega arith) (rw (sym (c .before .before .of-at2 .ensures))
     (eq-eqb _ _ (c .if1 .taken))))
 
 loop-again : tie.Need-loop-again Inv-loop μ-loop
 loop-again c = (
   omega arith,
   below-more _ _ (c .before .before .before .before .loop .inv .1)
-      (rw (sym (c .before .before .of-at2 .ensures)) (ne-eqb _ _ (c .if1 .left))),
+      (λ _. rw (sym (c .before .before .of-at2 .ensures)) (ne-eqb _ _ (c .if1 .left))),
 )
 
 returns-2 : tie.Need-returns-2 Inv-loop μ-loop
-returns-2 c = rw (sym (c .before .before .of-at .ensures)) (nowhere _ _ _ (c .before .loop .inv .1) (omega arith))
+returns-2 c = rw (sym (c .before .before .of-at .ensures)) (nowhere _ _ _ _ (c .before .loop .inv .1) (omega arith))
 
 pub first-of-group-spec : {M : Type 1} → statement M
 first-of-group-spec =

@@ -1,49 +1,26 @@
--- `outside` meets its contract. The `of` line of the rid is not among those passed.
-use Prim.Native.Nat.{_-_}
-use Rattle.text.specs.Held.{ofAt}
-use Rattle.verifier.proofs.ReportScans.{Seeking, seek-start, seek-on, seek-zero, seek-count, seek-end}
+-- `outside` meets its contract.
+use Rattle.text.proofs.ScanLaws.{slot-first}
+use Rattle.verifier.proofs.ReportScans.{slot-none, slot-zero, slot-count}
 use borrow.Author.Needs.{needs}
 use Rattle.verifier.proofs.report_rows.outside.Statement.{statement}
 use Rattle.verifier.proofs.report_rows.outside.Tie as tie
 
-abbrev Inv-loop : tie.InvT-loop
-Inv-loop ofs m rid num j₀ j = Seeking (ofAt ofs) m rid num j
-
-abbrev μ-loop : tie.MeasureT-loop
-μ-loop ofs m rid num j₀ j = m - j
-
-loop-holds : tie.Need-loop-holds Inv-loop μ-loop
-loop-holds c = seek-start
-
-returns : tie.Need-returns Inv-loop μ-loop
+returns : tie.Need-returns
 returns c =
-    let at-of-at = c .before .before .before in
-    let at-loop = at-of-at .before .before in
-    seek-zero (at-loop .loop .inv) (search needs) _ (at-of-at .of-at .ensures) (c .before .if1 .taken) (c .if2 .taken)
+    let at-slot-of = c .before in
+    slot-none _ _ _ (at-slot-of .before .args .num) _ (slot-first _ _ _ _ _ (at-slot-of .before .pre) (at-slot-of .slot-of .ensures .1)) (search needs)
 
-returns-2 : tie.Need-returns-2 Inv-loop μ-loop
+returns-2 : tie.Need-returns-2
 returns-2 c =
-    let at-of-at = c .before .before .before .before in
-    let at-loop = at-of-at .before .before in
-    seek-count (at-loop .loop .inv) (search needs) _ (at-of-at .of-at .ensures) (c .before .before .if1 .taken) (c .before .if2 .left)
+    let at-slot-of = c .before .before in
+    slot-zero _ _ _ _ _ (slot-first _ _ _ _ _ (at-slot-of .before .pre) (at-slot-of .slot-of .ensures .1)) (search needs) (c .if2 .taken)
 
-loop-again : tie.Need-loop-again Inv-loop μ-loop
-loop-again c = seek-on (c .before .before .before .before .loop .inv) (search needs) _ (c .before .before .of-at .ensures) (c .if1 .left)
-
-returns-3 : tie.Need-returns-3 Inv-loop μ-loop
-returns-3 c = seek-end (c .before .loop .inv) (search needs)
+returns-3 : tie.Need-returns-3
+returns-3 c =
+    let at-of-at = c .before in
+    let at-slot-of = at-of-at .before .before .before in
+    slot-count _ _ _ _ _ (slot-first _ _ _ _ _ (at-slot-of .before .pre) (at-slot-of .slot-of .ensures .1)) (search needs)
+    (at-of-at .before .if2 .left) _ (at-of-at .of-at .ensures)
 
 pub outside-spec : {M : Type 1} → statement M
-outside-spec =
-    tie.close
-    (tie.spec
-    Inv-loop
-    μ-loop
-    loop-holds
-    (λ c κs. search needs)
-    returns
-    returns-2
-    (λ c. search needs)
-    (λ c. search needs)
-    loop-again
-    returns-3)
+outside-spec = tie.close (tie.spec (λ c κs. search needs) returns returns-2 (λ c κs. search needs) returns-3)

@@ -1,0 +1,74 @@
+-- `check_batch` meets its contract.
+use Rattle.verifier.specs.Steps.{eventsIn}
+use Rattle.verifier.proofs.Verdicts.{broken, kept, refused-4, refused-4-open, refused-5, report-few, past-report}
+use borrow.Author.Needs.{needs}
+use Rattle.verifier.proofs.audits.check_batch.Statement.{statement}
+use Rattle.verifier.proofs.audits.check_batch.Tie as tie
+
+returns : tie.Need-returns
+returns c =
+    let at-row-4 = c .before .before .before in
+    let a = at-row-4 .before .before .args in
+    refused-4 (a .programs) (eventsIn (a .events .now) (a .t)) (a .report .now) _
+    (broken _ _ _ (at-row-4 .row-4 .ensures) (c .before .line .given .1))
+
+returns-2 : tie.Need-returns-2
+returns-2 c =
+    let at-row-4-open = c .before .before .before in
+    let at-enum-told = at-row-4-open .before in
+    let at-row-4 = at-enum-told .before .before in
+    let a = at-row-4 .before .before .args in
+    refused-4-open (a .programs) (eventsIn (a .events .now) (a .t)) (a .report .now)
+    (kept _ _ (at-row-4 .row-4 .ensures) (at-enum-told .enum-told .given .1)) _
+    (broken _ _ _ (at-row-4-open .row-4-open .ensures) (c .before .line2 .given .1))
+
+returns-3 : tie.Need-returns-3
+returns-3 c =
+    let at-read-report = c .before .before .before in
+    let at-enum-told2 = at-read-report .before .before .before in
+    let at-row-4-open = at-enum-told2 .before .before in
+    let at-enum-told = at-row-4-open .before in
+    let at-row-4 = at-enum-told .before .before in
+    let a = at-row-4 .before .before .args in
+    refused-5 (a .programs) (eventsIn (a .events .now) (a .t)) (a .report .now)
+    (kept _ _ (at-row-4 .row-4 .ensures) (at-enum-told .enum-told .given .1))
+    (kept _ _ (at-row-4-open .row-4-open .ensures) (at-enum-told2 .enum-told2 .given .1)) _ _ _ (at-read-report .read-report .ensures) _
+    (c .before .line3 .given .1)
+
+check-report-requires : tie.Need-check-report-requires
+check-report-requires c κs =
+    let at-m = c .before .before .before in
+    report-few _ _ _ _ (at-m .before .before .read-report .ensures) _ _ (at-m .m .given .1)
+
+returns-4 : tie.Need-returns-4
+returns-4 c =
+    let at-m = c .before .before .before .before in
+    let at-read-report = at-m .before .before in
+    let at-enum-told2 = at-read-report .before .before .before in
+    let at-row-4-open = at-enum-told2 .before .before in
+    let at-enum-told = at-row-4-open .before in
+    let at-row-4 = at-enum-told .before .before in
+    let a = at-row-4 .before .before .args in
+    past-report (a .programs) (eventsIn (a .events .now) (a .t)) (a .report .now)
+    (kept _ _ (at-row-4 .row-4 .ensures) (at-enum-told .enum-told .given .1))
+    (kept _ _ (at-row-4-open .row-4-open .ensures) (at-enum-told2 .enum-told2 .given .1)) _ _ _ (at-read-report .read-report .ensures) _ _
+    (at-m .m .given .1) (c .check-report .result) (c .check-report .ensures)
+
+pub check-batch-spec : {M : Type 1} → statement M
+check-batch-spec =
+    tie.close
+    (tie.spec
+    (λ c κs. search needs)
+    (λ c. search needs)
+    returns
+    (λ c. search needs)
+    (λ c κs. search needs)
+    (λ c. search needs)
+    returns-2
+    (λ c. search needs)
+    (λ c κs. search needs)
+    (λ c. search needs)
+    returns-3
+    (λ c. search needs)
+    check-report-requires
+    returns-4)
