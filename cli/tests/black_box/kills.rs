@@ -1,7 +1,7 @@
 //! `record` and `audit-all` killed at many moments: what is there is whole, and the next run completes it.
 
 use crate::harness::{tests, Done, Skipped};
-use crate::results::check_goes_on;
+use crate::results::{check_goes_on, until_kept};
 use crate::room::{check_recorded, example, names_in, Room};
 use crate::run::{audit_all, program, record};
 use crate::system::{kill, SIGKILL};
@@ -10,7 +10,7 @@ use std::fs;
 use std::os::unix::ffi::OsStrExt;
 use std::os::unix::process::ExitStatusExt;
 use std::path::Path;
-use std::process::{Command, Stdio};
+use std::process::{Child, Command, Stdio};
 use std::thread;
 use std::time::{Duration, Instant};
 
@@ -21,15 +21,15 @@ tests![
     audit_all_killed_at_system_calls,
 ];
 
-/// Starts a command and kills it after a while; true where it was still at work.
-fn killed_after(command: &mut Command, delay: Duration) -> bool {
+/// Starts a command and kills it after a wait; true where it was still at work.
+fn killed_after(command: &mut Command, wait: impl FnOnce(&mut Child)) -> bool {
     let mut child = command
         .stdin(Stdio::null())
         .stdout(Stdio::null())
         .stderr(Stdio::null())
         .spawn()
         .unwrap();
-    thread::sleep(delay);
+    wait(&mut child);
     let _ = child.kill();
     child.wait().unwrap().signal() == Some(SIGKILL)
 }
@@ -79,7 +79,9 @@ fn record_killed_at_spread_moments(room: &Room) -> Done {
     for number in 0..400 {
         let place = room.folder("place");
         let moment = whole * (number % 40) / 40;
-        killed += usize::from(killed_after(&mut recording(&place.join("out")), moment));
+        killed += usize::from(killed_after(&mut recording(&place.join("out")), |_| {
+            thread::sleep(moment)
+        }));
         record_goes_on(&place);
         fs::remove_dir_all(place).unwrap();
         if killed >= 40 {
@@ -118,20 +120,23 @@ fn auditing(spool: &Path, results: &Path) -> Command {
     program
 }
 
+/// A moment is so many results, and a part of the time of a group more. Times alone do not spread over a run: on a busy
+/// disk one run takes many times as long as another.
 fn audit_all_killed_at_spread_moments(room: &Room) -> Done {
-    let spool = room.spool("spool", "case-c", 300);
+    let spool = room.spool("spool", "case-c", 150);
     let begun = Instant::now();
     audit_all(&spool, room.path("whole")).is(0);
     let whole = begun.elapsed();
     let (mut killed, mut partial) = (0, 0);
-    for number in 0..60 {
+    for number in 0..120 {
         let results = room.path(&format!("results-{number}"));
-        killed += usize::from(killed_after(
-            &mut auditing(&spool, &results),
-            whole * (number % 24) / 24,
-        ));
+        let (kept, more) = (number as usize % 5 * 30, whole / 40 * (number / 5 % 5));
+        killed += usize::from(killed_after(&mut auditing(&spool, &results), |child| {
+            until_kept(child, &results, kept);
+            thread::sleep(more);
+        }));
         let found = names_in(&results.join("batches")).len();
-        partial += usize::from((1..300).contains(&found));
+        partial += usize::from((1..150).contains(&found));
         check_goes_on(&spool, &results);
         fs::remove_dir_all(results).unwrap();
         if killed >= 20 && partial >= 5 {

@@ -8,6 +8,9 @@ use std::collections::BTreeMap;
 use std::ffi::{OsStr, OsString};
 use std::os::unix::ffi::OsStrExt;
 use std::path::{Path, PathBuf};
+use std::process::Child;
+use std::thread;
+use std::time::Duration;
 
 /// A row of the table.
 #[derive(Clone, Debug, PartialEq, Eq)]
@@ -238,4 +241,11 @@ pub fn check_goes_on(spool: &Path, results: &Path) {
     audit_all(spool, results).is(0);
     check_all_kept(spool, results);
     check_stays(&before, results);
+}
+
+/// Waits until a run has kept so many results, or has ended.
+pub fn until_kept(child: &mut Child, results: &Path, number: usize) {
+    while names_in(&results.join("batches")).len() < number && child.try_wait().unwrap().is_none() {
+        thread::sleep(Duration::from_micros(500));
+    }
 }

@@ -1,7 +1,7 @@
 //! Runs of `audit-all` that are stopped, or that meet another at work.
 
 use crate::harness::{tests, Done};
-use crate::results::{check_all_kept, check_goes_on, states};
+use crate::results::{check_all_kept, check_goes_on, states, until_kept};
 use crate::room::{names_in, tree, Room};
 use crate::run::{audit_all, collect, program, Ended};
 use crate::system::{heeds_interrupts, kill, lock, SIGINT, SIGTERM};
@@ -28,13 +28,6 @@ fn begin(spool: &Path, results: &Path, jobs: &str) -> Child {
         .stdout(Stdio::piped())
         .stderr(Stdio::piped());
     heeds_interrupts(&mut program).spawn().unwrap()
-}
-
-/// Waits until a run has kept so many results, or has ended.
-fn until_kept(child: &mut Child, results: &Path, number: usize) {
-    while names_in(&results.join("batches")).len() < number && child.try_wait().unwrap().is_none() {
-        thread::sleep(Duration::from_micros(500));
-    }
 }
 
 /// Begins a run, sends it a signal once some results are kept, and waits for it.
