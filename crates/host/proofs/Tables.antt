@@ -2,11 +2,10 @@
 -- programs that were read.
 use Prim.Native.Nat.{ℕ, _+_, _%_, _≤_, _<_}
 use mathlib.Core.List.{List, [], _∷_}
-use mathlib.Core.Path.{_≡_, sym, ap, subst, _∙_}
+use mathlib.Core.Path.{_≡_, sym, ap, _∙_}
 use native.Mathlib.Omega.{arith}
 use lib.Dec.{ltb}
 use lib.ListN.{length, getD, set, length-set, List·getD-eq-default}
-use lib.Seq.{getD-set-same, getD-set-other}
 use borrow.Author.Tests.{ltb-true, ltb-false}
 use Rattle.text.specs.Formats.{mostEntries}
 use Rattle.text.specs.Held.{noInstr, noProgram, Bounded, tableIn}
@@ -15,8 +14,8 @@ use Rattle.text.specs.declared.programs.Instr.{Instr}
 use Rattle.text.specs.declared.programs.Program.{Program}
 use Rattle.text.specs.declared.programs.Programs.{Programs}
 use Rattle.text.specs.declared.schedule.Move.{Move}
-use Rattle.text.proofs.RowLaws.{firsts-length, firsts-at}
-use Rattle.ordering.proofs.Basics.{byBool, byEq}
+use Rattle.text.proofs.RowLaws.{firsts-length, firsts-at, set-next}
+use Rattle.ordering.proofs.Basics.{byBool}
 use Rattle.model.specs.Host.{recorded}
 use Rattle.machine.specs.Instance.{codeAt}
 use Rattle.machine.specs.Instructions.{effect, effectOf}
@@ -49,14 +48,6 @@ module _ (table : Table) where
       ∙ ap (λ j. instrFrom (getD (getD table (prog % 16) []) j [])) e
 
 -- ── a table as it is laid out ──
--- one more is put behind j that are as they should be
-put-next : {A : Type 0} (P : ℕ → A → Type 0) (d : A) (xs : List A) (j : ℕ) (x : A) → j < length xs →
-    ((k : ℕ) → k < j → P k (getD xs k d)) → P j x → (k : ℕ) → k < j + 1 → P k (getD (set xs j x) k d)
-put-next P d xs j x h f g k l =
-    byEq k j
-    (λ e _. subst (λ k. P k (getD (set xs j x) k d)) (sym e) (subst (P j) (sym (getD-set-same xs j x d h)) g))
-    (λ e _. subst (P k) (sym (getD-set-other xs j k x d e)) (f k (omega (arith, l, e))))
-
 -- the first j instructions of a program stand in its rows
 pub record RowsTo (rows : List (List ℕ)) (code : List Instr) (j : ℕ) : Type 0 where
   pub room : length rows ≡ 64
@@ -70,7 +61,7 @@ row-joins rows code j g h i e =
       room = simp length-set (g .room);
       few = omega (arith, h);
       instrs =
-          put-next (λ k v. instrFrom v ≡ getD code k noInstr) [] rows j (i .code ∷ i .a ∷ i .b ∷ i .c ∷ []) (omega (arith, h, g .room))
+          set-next (λ k v. instrFrom v ≡ getD code k noInstr) [] rows j (i .code ∷ i .a ∷ i .b ∷ i .c ∷ []) (omega (arith, h, g .room))
           (g .instrs) e;
     }
 
@@ -90,7 +81,7 @@ program-joins ps table k g h rows f =
       few = g .few;
       room = simp length-set (g .room);
       programs =
-          put-next (λ prog rows. CodeIs rows (getD (ps .table) prog noProgram .code)) [] table k rows (omega (arith, h, g .few, g .room))
+          set-next (λ prog rows. CodeIs rows (getD (ps .table) prog noProgram .code)) [] table k rows (omega (arith, h, g .few, g .room))
           (g .programs) f;
     }
 

@@ -2,14 +2,28 @@
 use Prim.Native.Nat.{ℕ, zero, suc, _+_, _*_, _%_, _<_, _≤_}
 use mathlib.Core.Bool.{Bool, true, false}
 use mathlib.Core.List.{List, [], _∷_, _++_, append-assoc}
-use mathlib.Core.Path.{_≡_, refl, sym, _∙_, ap}
+use mathlib.Core.Path.{_≡_, refl, sym, _∙_, ap, subst}
 use native.Mathlib.Omega.{arith}
 use native.Mathlib.Numerals.{add-one}
 use native.Mathlib.Nat.{mod-eq-of-lt, mul-le-mul-right, suc-mul}
-use borrow.Author.Tests.{ltb-true, ltb-false}
-use lib.Dec.{ltb}
+use borrow.Author.Tests.{eqb-true, eqb-false, ltb-true, ltb-false}
+use lib.Dec.{eqb, ltb}
 use lib.ListN.{length, getD, take, drop, set, length-append, length-drop, take-append-drop}
-use lib.Seq.{sets, sets-eq, length-sets, take-at, drop-at, length-take-le, take-append-le, drop-append-le, drop-set-lt, getD-take, getD-drop}
+use lib.Seq.{
+  sets,
+  sets-eq,
+  length-sets,
+  take-at,
+  drop-at,
+  length-take-le,
+  take-append-le,
+  drop-append-le,
+  drop-set-lt,
+  getD-take,
+  getD-drop,
+  getD-set-same,
+  getD-set-other,
+}
 use Rattle.text.specs.Rows.{row, withRow, firsts}
 
 -- number j of row i stands at i times w plus j
@@ -87,6 +101,18 @@ module _ {A : Type 0} where
       firsts f (n + 1) ≡ firsts g n ++ x ∷ []
   unfolding firsts
   firsts-more f g n x h e = rw add-one (λ i. firsts-same f g n h i ++ e i ∷ [])
+
+-- an array is filled: x is put behind j entries that are as they should be
+pub set-next : {A : Type 0} (P : ℕ → A → Type 0) (d : A) (xs : List A) (j : ℕ) (x : A) → j < length xs →
+    ((k : ℕ) → k < j → P k (getD xs k d)) → P j x → (k : ℕ) → k < j + 1 → P k (getD (set xs j x) k d)
+set-next P d xs j x h f g k l = go (eqb k j) refl
+  where
+    go : (b : Bool) → eqb k j ≡ b → P k (getD (set xs j x) k d)
+    go true e =
+        subst (λ k. P k (getD (set xs j x) k d)) (sym (eqb-true k j e)) (subst (P j) (sym (getD-set-same xs j x d h)) g)
+    go false e =
+        let n = eqb-false k j e in
+        subst (P k) (sym (getD-set-other xs j k x d n)) (f k (omega (arith, l, n)))
 
 -- what lies before a place is not changed behind it
 front-same : (w j k : ℕ) (a b : List ℕ) → j + w ≤ k → k ≤ length a → take w (drop j (take k a ++ b)) ≡ take w (drop j a)

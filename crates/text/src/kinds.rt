@@ -17,7 +17,7 @@ pub enum Lines {
 }
 
 // The line of the first kind, where none of the second stands.
-pub fn first(p: Place) -> Line
+pub(crate) fn first(p: Place) -> Line
     ensures { λ r. ⌜ r ≡ firstLine p ⌝ }
 {
     let Place::At(e) = p else {
@@ -27,7 +27,7 @@ pub fn first(p: Place) -> Line
 }
 
 // The line of the second kind, where none of the first stands.
-pub fn second(p: Place) -> Line
+pub(crate) fn second(p: Place) -> Line
     ensures { λ r. ⌜ r ≡ secondLine p ⌝ }
 {
     let Place::At(e) = p else {

@@ -10,9 +10,14 @@ use Rattle.text.specs.Report.{Report, ofFrom, entryFrom, addOf, addLog, reportK
 use Rattle.text.specs.Text.{readable, within}
 use Rattle.text.specs.declared.report.Entry.{Entry}
 use Rattle.text.proofs.Ranges.{Keeps, text-keeps, within-some, range-at}
+use Rattle.ordering.specs.Lists.{All}
 use Rattle.ordering.proofs.Basics.{clash}
 use Rattle.ordering.proofs.Lists.{all-append}
-use Rattle.verifier.specs.Steps.{InRange}
+
+-- a report whose fields are in range
+pub record InRange (r : Report) : Type 0 where
+  pub objects : All (λ l. l .op .object < 16) (r .log)
+  pub counts : All (λ x. x .count ≤ 256) (r .ofs)
 
 log-keeps : Keeps InRange (record { format = logLine; add = addLog })
 unfolding addLog

@@ -7,7 +7,6 @@ use native.Mathlib.Numerals.{add-one}
 use native.Mathlib.Omega.{arith}
 use lib.Dec.{eqb, ltb}
 use lib.ListN.{length, getD, set}
-use lib.Seq.{getD-set-same, getD-set-other}
 use Rattle.text.specs.Held.{ofAt, entryAt}
 use Rattle.text.specs.Rows.{firsts}
 use Rattle.text.specs.Scans.{FirstFrom}
@@ -15,8 +14,8 @@ use Rattle.text.specs.declared.report.Entry.{Entry}
 use Rattle.text.specs.declared.report.Of.{Of}
 use Rattle.text.specs.declared.trace.Event.the-variants.{Request, Response}
 use Rattle.text.specs.declared.trace.Event.{Event}
-use Rattle.text.proofs.RowLaws.{firsts-length}
-use Rattle.ordering.proofs.Basics.{byBool, byEq, eqb-yes, eqb-no, yes-eqb, and-true}
+use Rattle.text.proofs.RowLaws.{firsts-length, set-next}
+use Rattle.ordering.proofs.Basics.{byBool, eqb-yes, eqb-no, yes-eqb, and-true}
 use Rattle.model.specs.Audit.{row6From, bad7, row7}
 use Rattle.model.specs.Batch.{named, countOf, claims, claimed}
 use Rattle.model.specs.Checks.{firstBad}
@@ -125,10 +124,8 @@ claims-not r k l p q a b d =
 pub packed-more : (logs column : List ℕ) (n i p : ℕ) (l : Entry) → l ≡ entryAt logs i → p ≡ packed (l .rid) (l .num) → i < length column →
     ((j : ℕ) → j < i → getD column j 0 ≡ packed (entryAt logs j .rid) (entryAt logs j .num)) →
     (j : ℕ) → j < i + 1 → getD (set column i p) j 0 ≡ packed (entryAt logs j .rid) (entryAt logs j .num)
-packed-more logs column n i p l e q h g j k =
-    byEq j i
-    (λ z d. rw z (getD-set-same column i p 0 h ∙ q ∙ (λ w. packed (e w .rid) (e w .num))))
-    (λ z d. getD-set-other column i j p 0 z ∙ g j (omega arith))
+packed-more logs column n i p l e q h g =
+    set-next (λ j x. x ≡ packed (entryAt logs j .rid) (entryAt logs j .num)) 0 column i p h g (q ∙ (λ w. packed (e w .rid) (e w .num)))
 
 -- ── blocks of the column: b says whether p is one of the first k of n from j on ──
 pub record Met (column : List ℕ) (p j n k : ℕ) (b : Bool) : Type 0 where

@@ -8,8 +8,24 @@ use mathlib.Core.Path.{_≡_, refl, sym, ap, _∙_, subst}
 use native.Mathlib.Omega.{arith}
 use borrow.Author.Tests.{ltb-true}
 use lib.Dec.{ltb}
-use lib.ListN.{length}
-use Rattle.text.specs.Held.{eventAt, ofAt, entryAt, readIn, reportIn, programAt, programsIn, TraceIs, ReportIs, ProgramsIs, ofsIn, logsIn, tableIn}
+use lib.ListN.{length, getD}
+use Rattle.text.specs.Held.{
+  noProgram,
+  Bounded,
+  eventAt,
+  ofAt,
+  entryAt,
+  readIn,
+  reportIn,
+  programAt,
+  programsIn,
+  TraceIs,
+  ReportIs,
+  ProgramsIs,
+  ofsIn,
+  logsIn,
+  tableIn,
+}
 use Rattle.text.specs.Held as held
 use Rattle.text.specs.Programs.{readPrograms}
 use Rattle.text.specs.Report.{Report, readReport}
@@ -46,7 +62,6 @@ use Rattle.verifier.specs.Steps.{
   refusal,
   eventsIn,
   linesIn,
-  TraceHeld,
   auditedReport,
   auditedTrace,
   ReportChecked,
@@ -125,22 +140,22 @@ module _ (table : List Program) (events : List Event) (report : Read Report) whe
   abbrev behind5 : List Check
   behind5 = reportChecks (machine limit table) atStart (batchOf events lines)
 
-  pub at-4 : (line : ℕ) → row4 (known table) events ≡ some line → refusal 4 line ≡ auditedTrace table events report
+  at-4 : (line : ℕ) → row4 (known table) events ≡ some line → refusal 4 line ≡ auditedTrace table events report
   at-4 line e =
       ap (counted table events lines) (first-holds 4 4 5 (row4 (known table) events) (row4Open events) (badLine report) behind5 line e)
 
   module _ (d : row4 (known table) events ≡ none) where
-    pub at-4-open : (line : ℕ) → row4Open events ≡ some line → refusal 4 line ≡ auditedTrace table events report
+    at-4-open : (line : ℕ) → row4Open events ≡ some line → refusal 4 line ≡ auditedTrace table events report
     at-4-open line e =
         ap (counted table events lines) (second-holds 4 4 5 (row4 (known table) events) (row4Open events) (badLine report) behind5 d line e)
 
     module _ (f : row4Open events ≡ none) where
-      pub at-5 : (line : ℕ) → report ≡ unreadable line → refusal 5 line ≡ auditedTrace table events report
+      at-5 : (line : ℕ) → report ≡ unreadable line → refusal 5 line ≡ auditedTrace table events report
       at-5 line e =
           ap (counted table events lines)
           (third-holds 4 4 5 (row4 (known table) events) (row4Open events) (badLine report) behind5 d f line (ap badLine e))
 
-      pub past-5 : (x : Report) → report ≡ readable x → auditedReport table events x ≡ auditedTrace table events report
+      past-5 : (x : Report) → report ≡ readable x → auditedReport table events x ≡ auditedTrace table events report
       past-5 x e =
           ap (λ y. auditedReport table events (contents (record { ofs = []; log = [] }) y)) (sym e)
           ∙ ap (counted table events lines)
@@ -198,6 +213,12 @@ module _ (k : ℕ) (events : List Event) (s : List ℕ) where
           })
 
 -- ── rows 8 to 12 of what stands in the arrays ──
+-- programs and a trace that were read
+record TraceHeld (ps : Programs) (t : ℕ) : Type 0 where
+  programs : ps .n ≤ 16
+  bounded : (i : ℕ) → i < ps .n → Bounded (getD (ps .table) i noProgram)
+  events : t ≤ 128
+
 module _ (ps : Programs) (events : List ℕ) (t : ℕ) (traced : TraceHeld ps t) (s ofs : List ℕ) (m : ℕ) (logs : List ℕ) (n : ℕ)
     (h : BatchHeld (ps .n) (eventsIn events t) s ofs m logs n) where
   abbrev batch : Batch
@@ -232,7 +253,7 @@ module _ (ps : Programs) (events : List ℕ) (t : ℕ) (traced : TraceHeld ps t)
         counts = r .counts;
       }
 
-  pub judged : (f : Fault) (r : _) → r ≡ audited (verdict (f .row) (f .line)) m n → Judges ps events t ofs m logs n f →
+  judged : (f : Fault) (r : _) → r ≡ audited (verdict (f .row) (f .line)) m n → Judges ps events t ofs m logs n f →
       r ≡ auditedTrace table (eventsIn events t) (readReport s)
   judged f r g j =
       let v = subst (λ b. Ready (known table) b → verdict (f .row) (f .line) ≡ firstFault (checks (ps .table) b)) whole (j (known table)) ready in

@@ -6,17 +6,15 @@ use mathlib.Core.Option.{none}
 use mathlib.Core.Path.{_≡_}
 use lib.Dec.{eqb, ltb}
 use lib.ListN.{length, getD}
-use Rattle.text.specs.Held.{eventAt, ofAt, entryAt, noProgram, Bounded}
+use Rattle.text.specs.Held.{eventAt, ofAt, entryAt}
 use Rattle.text.specs.Report.{Report, readReport}
 use Rattle.text.specs.Rows.{firsts}
 use Rattle.text.specs.Text.{Read, readable, count}
 use Rattle.text.specs.Trace.{isRequest}
 use Rattle.text.specs.declared.programs.Program.{Program}
-use Rattle.text.specs.declared.programs.Programs.{Programs}
 use Rattle.text.specs.declared.report.Of.{Of}
 use Rattle.text.specs.declared.trace.Event.the-variants.{Request, Response}
 use Rattle.text.specs.declared.trace.Event.{Event}
-use Rattle.ordering.specs.Lists.{All}
 use Rattle.model.specs.Audit.{row4, row4Open, row6, row7, reportChecks}
 use Rattle.model.specs.Batch.{Batch, named, countOf}
 use Rattle.model.specs.Checks.{check, firstFault}
@@ -89,17 +87,6 @@ eventsIn events t = firsts (eventAt events) t
 
 abbrev pub linesIn : (ofs : List ℕ) (m : ℕ) (logs : List ℕ) (n : ℕ) → Report
 linesIn ofs m logs n = record { ofs = firsts (ofAt ofs) m; log = firsts (entryAt logs) n }
-
--- programs and a trace that were read
-pub record TraceHeld (ps : Programs) (t : ℕ) : Type 0 where
-  pub programs : ps .n ≤ 16
-  pub bounded : (i : ℕ) → i < ps .n → Bounded (getD (ps .table) i noProgram)
-  pub events : t ≤ 128
-
--- a report whose fields are in range
-pub record InRange (r : Report) : Type 0 where
-  pub objects : All (λ l. l .op .object < 16) (r .log)
-  pub counts : All (λ x. x .count ≤ 256) (r .ofs)
 
 -- the audit from row 6 on, and from row 4 on
 abbrev pub auditedReport : List Program → List Event → Report → Audited
