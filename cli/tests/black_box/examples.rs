@@ -1,11 +1,11 @@
 //! Every example through audit and record: what is printed, byte for byte; the status; and the sentence.
 
-use crate::harness::{skip, tests, Done, Skipped};
+use crate::harness::{tests, Done, Skipped};
 use crate::json::{only_object, text, Object, Value};
 use crate::room::{
-    audited_examples, check_recorded, example, examples, expected, names_in, read, root, Room,
+    audited_examples, check_recorded, example, examples, expected, names_in, read, Room,
 };
-use crate::run::{audit, program, record, Run};
+use crate::run::{audit, program, proved_program, record, Run};
 use std::collections::BTreeSet;
 use std::fs;
 use std::path::Path;
@@ -101,11 +101,9 @@ fn audit_of_every_example(_: &Room) -> Done {
 
 /// What a proved program prints in a folder.
 fn proved(name: &str, folder: &Path) -> Result<Vec<u8>, Skipped> {
-    let proved = root().join("target/bin").join(name);
-    if !proved.exists() {
-        return skip(&format!("target/bin/{name} is not there"));
-    }
-    let ended = Command::new(proved).current_dir(folder).end();
+    let ended = Command::new(proved_program(name)?)
+        .current_dir(folder)
+        .end();
     Ok(ended.is(0).stdout.clone())
 }
 

@@ -1,9 +1,10 @@
 //! Running the program, with a limit of time, and what it then printed and said.
 
 use crate::harness::{skip, Skipped};
+use crate::room::root;
 use std::fmt;
 use std::io::{Read, Write};
-use std::path::Path;
+use std::path::{Path, PathBuf};
 use std::process::{Child, Command, ExitStatus, Stdio};
 use std::sync::mpsc;
 use std::thread;
@@ -27,6 +28,15 @@ pub fn program(command: &str) -> Command {
     let mut program = Command::new(PROGRAM);
     program.arg(command);
     program
+}
+
+/// Where a proved program lies, by itself: it reads the files of its working folder.
+pub fn proved_program(name: &str) -> Result<PathBuf, Skipped> {
+    let path = root().join("target/bin").join(name);
+    if !path.exists() {
+        return skip(&format!("target/bin/{name} is not there"));
+    }
+    Ok(path)
 }
 
 pub fn audit(folder: impl AsRef<Path>) -> Ended {

@@ -4,15 +4,32 @@ use files::Got;
 use files::front;
 use files::read_file;
 use files::write_front;
-use lines::Put;
+use lines::written;
 use verifier::audit_text;
+ghost use mathlib.Core.Path.{_≡_};
+ghost use lib.ListN.{length};
+ghost use Rattle.lines.specs.Put.{front};
+ghost use Rattle.verifier.specs.Faults.{auditOf};
+ghost use Rattle.verifier.specs.Printed.{auditedText, mostPrinted};
 
-// The four lines are shorter than the buffer: a number has at most 20 digits.
+// As much as is ever printed (`mostPrinted`).
+const ROOM: usize = 117;
+
+// What is printed, to the front of out, and how long it is. It has room whatever the texts are.
+fn fill(programs: &[u8], trace: &[u8], report: &[u8], out: &mut [u8; ROOM]) -> usize
+    requires { ⌜ length (now out) ≡ mostPrinted ⌝ }
+    ensures count { λ r. ⌜ r ≡ length
+        (auditedText (auditOf (now (programs .entry)) (now (trace .entry)) (now (report .entry)))) ⌝ }
+    ensures bytes { λ _. ⌜ now (out .exit) ≡ front
+        (auditedText (auditOf (now (programs .entry)) (now (trace .entry)) (now (report .entry)))) (now (out .entry)) ⌝ }
+    ensures room { λ _. ⌜ length (now (out .exit)) ≡ length (now (out .entry)) ⌝ }
+{
+    written(audit_text(programs, trace, report, out))
+}
+
 fn print(programs: &[u8], trace: &[u8], report: &[u8]) {
-    let mut out = [0u8; 128];
-    let Put::Wrote(n) = audit_text(programs, trace, report, &mut out) else {
-        return;
-    };
+    let mut out = [0u8; ROOM];
+    let n = fill(programs, trace, report, &mut out);
     write_front(&out, n);
 }
 

@@ -1,19 +1,20 @@
 -- Demand 3 for the host, on texts: what it writes reads back as the batch that the run made, and the audit accepts it.
 use Prim.Native.Nat.{ℕ, suc, _+_, _≤_}
-use mathlib.Core.Bool.{Bool, true, false, cond, _&&_}
+use mathlib.Core.Bool.{Bool, true, false, cond}
 use mathlib.Core.List.{List, [], _∷_}
+use mathlib.Core.Logic.{_↔_}
 use mathlib.Core.Option.{Option, none, some}
-use mathlib.Core.Path.{_≡_, refl, ap, subst, _∙_}
+use mathlib.Core.Path.{_≡_, refl, sym, ap, subst, _∙_}
 use native.Mathlib.Omega.{arith}
-use borrow.Author.Tests.{le-leb}
-use lib.Dec.{leb}
+use borrow.Author.Tests.{le-ltb}
 use lib.ListN.{length}
-use Rattle.text.specs.Programs.{readPrograms}
-use Rattle.text.specs.Report.{Report, OfIn, EntryIn, readReport}
+use Rattle.text.specs.Programs.{readPrograms, known}
+use Rattle.text.specs.Report.{Report, readReport}
+use Rattle.text.specs.Written.{OfIn, EntryIn, EventIn}
 use Rattle.text.specs.Schedule.{readSchedule}
-use Rattle.text.specs.Text.{Read, readable, unreadable, count}
-use Rattle.text.specs.Text as texts
-use Rattle.text.specs.Trace.{isRequest, isResponse, EventIn, readTrace}
+use Rattle.text.specs.Text.{readable, count}
+use Rattle.text.specs.Written as texts
+use Rattle.text.specs.Trace.{isRequest, isResponse, readTrace}
 use Rattle.text.specs.declared.programs.Program.{Program}
 use Rattle.text.specs.declared.report.Entry.{Entry}
 use Rattle.text.specs.declared.report.Of.{Of}
@@ -27,54 +28,26 @@ use Rattle.ordering.proofs.Basics.{clash}
 use Rattle.ordering.proofs.Lists.{all-imp}
 use Rattle.model.specs.Batch.{Batch}
 use Rattle.model.specs.Bounds.{Bounded}
-use Rattle.model.specs.Host.{
-  Result,
-  fault,
-  made,
-  Host,
-  empty,
-  Stepped,
-  broken,
-  on,
-  stepped,
-  goOn,
-  runFrom,
-  row15,
-  ofsFrom,
-  close,
-  write,
-  recorded,
-}
+use Rattle.model.specs.Checks.{faultOr, badLine, contents}
+use Rattle.model.specs.Host.{Result, fault, made, Host, empty, Stepped, broken, on, stepped, goOn, runFrom, row15, ofsFrom, close, recorded, andThen}
 use Rattle.model.specs.Machine.{Machine}
 use Rattle.model.specs.PlainRun.{Phase}
 use Rattle.model.specs.Ranges.{requestsIn, responsesIn, FitEvent, FitEntry, FitOf, FitMove, FitBatch}
 use Rattle.model.proofs.Main.{host-accepted, host-in-range}
 use Rattle.model.proofs.Recorded.{recorded-wrote}
-use Rattle.machine.specs.Instance.{codeAt, known, machine}
+use Rattle.model.proofs.Scans.{passes, read-fine}
+use Rattle.machine.specs.Instance.{codeAt, machineOf}
 use Rattle.machine.specs.Objects.{register, store, reads, isRegister, atStart}
 use Rattle.machine.specs.Processes.{limit, instrAt}
 use Rattle.machine.specs.declared.objects.Cell.the-variants.{Never}
-use Rattle.machine.specs.Rules.{rulingOf, brokenLine}
-use Rattle.machine.specs.declared.rules.Ruling.the-variants.{Kept, Broken}
-use Rattle.machine.specs.declared.rules.Ruling.{Ruling}
+use Rattle.machine.specs.Rules.{row2}
 use Rattle.machine.proofs.Bounds.{Word, within, bounded}
-use Rattle.verifier.specs.Faults.{auditOf}
+use Rattle.verifier.specs.Faults.{audited, auditOf}
 use Rattle.verifier.specs.declared.Audited.{Audited}
-use Rattle.verifier.proofs.Acceptance.{audit-of-accepted}
+use Rattle.verifier.proofs.Acceptance.{audit-of-read}
 use Rattle.host.specs.Accepted.{Accepted}
-use Rattle.host.specs.Recorded.{
-  andThen,
-  readAs,
-  ruled,
-  tableOf,
-  runOf,
-  batchOf,
-  Texts,
-  textsOf,
-  fitted,
-  recordOf,
-  RecordIs,
-}
+use Rattle.host.specs.Recorded.{row16, runOf, batchFrom, resultOf, batchRecorded, Texts, textsOf, fitted, recordOf, RecordIs}
+use Rattle.host.specs.Records.{Ran, Records}
 use Rattle.host.specs.declared.Recorded.{Recorded}
 use Rattle.host.proofs.Fronts.{trace-front, report-front}
 use Rattle.host.proofs.Readings.{MoveIn, ScheduleIn, programs-words, schedule-in}
@@ -121,7 +94,7 @@ Rid r = r ≤ 65535
 -- programs whose constants are numbers of 64 bits
 module _ (table : List Program) (words : (prog at : ℕ) → Word (instrAt (codeAt table prog) at .b)) where
   abbrev M : Machine
-  M = machine limit table
+  M = machineOf table
 
   abbrev B : Bounded M
   B = bounded limit table words
@@ -233,61 +206,50 @@ through : {A B : Type 0} (x : Result A) (f : A → Result B) (y : B) → andThen
 through (fault number line) f y e = clash (cc)
 through (made a) f y e = record { from = a; before = refl; behind = e }
 
-read-made : {S : Type 0} (number : ℕ) (x : Read S) (y : S) → readAs number x ≡ made y → x ≡ readable y
-read-made number (readable x) y e = let z : x ≡ y = cc in ap readable z
-read-made number (unreadable line) y e = clash (cc)
+-- a row did not hold of what was made
+past : {A : Type 0} (k : ℕ) (o : Option ℕ) (x : Result A) (y : A) → faultOr fault k o x ≡ made y → (o ≡ none) × (x ≡ made y)
+past k none x y e = (refl, e)
+past k (some n) x y e = clash (cc)
 
-ruled-made : (table read : List Program) (x : Ruling) → ruled read x ≡ made table → (read ≡ table) × (x ≡ Kept)
-ruled-made table read Kept e = (cc, refl)
-ruled-made table read (Broken line) e = clash (cc)
-
-fitted-made : (m n : ℕ) (t u : Texts) → fitted m n t ≡ made u → t ≡ u
-fitted-made m n t u e = by (leb (length (t .trace)) m && leb (length (t .report)) n) e
-  where
-    by : (b : Bool) → _≡_ {A = Result Texts} (cond b (made t) (fault 16 0)) (made u) → t ≡ u
-    by true e = cc
-    by false e = clash (cc)
-
--- the run that made a batch
-record Ran (programs schedule : List ℕ) (b : Batch) : Type 0 where
-  table : List Program
-  tableRead : readPrograms programs ≡ readable table
-  rules : rulingOf table ≡ Kept
-  moves : List Move
-  movesIn : ScheduleIn moves
-  run : runOf table moves ≡ made b
-
-ran : (programs schedule : List ℕ) (b : Batch) → batchOf programs schedule ≡ made b → Ran programs schedule b
-unfolding batchOf
+ran : (programs schedule : List ℕ) (b : Batch) → batchRecorded programs schedule ≡ made b → Ran programs schedule b
+unfolding batchRecorded
 ran programs schedule b e =
-    let t = through (tableOf programs) _ b e in
-    let s = through (readAs 13 (readSchedule schedule)) _ b (t .behind) in
-    let r = through (readAs 1 (readPrograms programs)) (λ table. ruled table (rulingOf table)) (t .from) (t .before) in
-    let k = ruled-made (t .from) (r .from) (rulingOf (r .from)) (r .behind) in
+    let p = readPrograms programs in
+    let s = readSchedule schedule in
+    let e1 = past 1 (badLine p) _ b e in
+    let e2 = past 2 (row2 (contents [] p)) _ b (e1 .1) in
+    let e13 = past 13 (badLine s) _ b (e2 .1) in
     record {
-      table = t .from;
-      tableRead = read-made 1 (readPrograms programs) (r .from) (r .before) ∙ ap readable (k .0);
-      rules = subst (λ table. rulingOf table ≡ Kept) (k .0) (k .1);
-      moves = s .from;
-      movesIn = schedule-in schedule (s .from) (read-made 13 (readSchedule schedule) (s .from) (s .before));
-      run = s .behind;
+      table = contents [] p;
+      tableRead = read-fine [] p (e1 .0);
+      rules = e2 .0;
+      moves = contents [] s;
+      movesRead = read-fine [] s (e13 .0);
+      run = e13 .1;
     }
 
 -- the result of the audit that accepts a batch
-abbrev accepted : Batch → Audited
+abbrev pub accepted : Batch → Audited
 accepted b = record { verdict = 0; line = 0; requests = count isRequest (b .trace); operations = length (b .log) }
 
-module _ (programs schedule : List ℕ) (b : Batch) (e : batchOf programs schedule ≡ made b) where
+module _ (programs schedule : List ℕ) (b : Batch) (e : batchRecorded programs schedule ≡ made b) where
   batch-accepted : auditOf programs (textsOf b .trace) (textsOf b .report) ≡ accepted b
   batch-accepted =
       let r = ran programs schedule b e in
       let w = programs-words programs (r .table) (r .tableRead) in
-      audit-of-accepted programs (textsOf b .trace) (textsOf b .report) (r .table) (b .trace) (record { ofs = b .ofs; log = b .log })
-      (r .tableRead)
-      (trace-read (r .table) w (r .moves) (r .movesIn) b (r .run))
-      (report-read (r .table) w (r .moves) (r .movesIn) b (r .run))
-      (ap brokenLine (r .rules))
-      (host-accepted (machine limit (r .table)) atStart (known (r .table)) 1024 16 (within limit (r .table)) (r .moves) b (r .run))
+      let s = schedule-in schedule (r .moves) (r .movesRead) in
+      audit-of-read programs (textsOf b .trace) (textsOf b .report)
+      (record {
+        table = r .table;
+        tableRead = r .tableRead;
+        events = b .trace;
+        eventsRead = trace-read (r .table) w (r .moves) s b (r .run);
+        lines = record { ofs = b .ofs; log = b .log };
+        linesRead = report-read (r .table) w (r .moves) s b (r .run);
+        rules = r .rules;
+      })
+      ∙ ap (λ v. audited v (count isRequest (b .trace)) (length (b .log)))
+      (host-accepted (machineOf (r .table)) atStart (known (r .table)) 1024 16 (within limit (r .table)) (r .moves) b (r .run))
 
   -- buffers as long as a text may be are never too short
   pub never-short : recordOf programs schedule 65535 65535 ≡ made (textsOf b)
@@ -295,10 +257,11 @@ module _ (programs schedule : List ℕ) (b : Batch) (e : batchOf programs schedu
   never-short =
       let r = ran programs schedule b e in
       let w = programs-words programs (r .table) (r .tableRead) in
+      let s = schedule-in schedule (r .moves) (r .movesRead) in
       rw (
         e,
-        le-leb (length (textsOf b .trace)) 65535 (trace-short (r .table) w (r .moves) (r .movesIn) b (r .run)),
-        le-leb (length (textsOf b .report)) 65535 (report-short (r .table) w (r .moves) (r .movesIn) b (r .run)),
+        le-ltb 65535 (length (textsOf b .trace)) (trace-short (r .table) w (r .moves) s b (r .run)),
+        le-ltb 65535 (length (textsOf b .report)) (report-short (r .table) w (r .moves) s b (r .run)),
       )
       refl
 
@@ -311,20 +274,9 @@ then-numbered : {A B : Type 0} (x : Result A) (f : A → Result B) → Numbered 
 then-numbered (fault number line) f h g = h
 then-numbered (made a) f h g = g a
 
-read-numbered : {S : Type 0} (number : ℕ) (x : Read S) → 1 ≤ number → Numbered (readAs number x)
-read-numbered number (readable x) h = tt
-read-numbered number (unreadable line) h = h
-
-ruled-numbered : (table : List Program) (x : Ruling) → Numbered (ruled table x)
-ruled-numbered table Kept = tt
-ruled-numbered table (Broken line) = omega arith
-
-fitted-numbered : (m n : ℕ) (t : Texts) → Numbered (fitted m n t)
-fitted-numbered m n t = by (leb (length (t .trace)) m && leb (length (t .report)) n)
-  where
-    by : (b : Bool) → Numbered (cond b (made t) (fault 16 0))
-    by true = tt
-    by false = omega arith
+row-numbered : {A : Type 0} (k : ℕ) (o : Option ℕ) (x : Result A) → 1 ≤ k → Numbered x → Numbered (faultOr fault k o x)
+row-numbered k none x h g = g
+row-numbered k (some n) x h g = h
 
 module _ (M : Machine) (known : ℕ → Bool) (limit : ℕ) where
   lines-numbered : (n : ℕ) (ms : List Move) (h : Host M) → Numbered (runFrom M known limit n ms h)
@@ -337,56 +289,81 @@ module _ (M : Machine) (known : ℕ → Bool) (limit : ℕ) where
       by (on h) f = f h
 
   run-numbered : (objects : ℕ) (opening : ℕ → M .Content) (ms : List Move) → Numbered (recorded M known limit objects opening ms)
-  run-numbered objects opening ms = by (runFrom M known limit 1 ms (empty M opening)) (lines-numbered 1 ms (empty M opening))
-    where
-      closing : (h : Host M) (x : Option ℕ) → Numbered (close M objects h x)
-      closing h none = tt
-      closing h (some n) = omega arith
-
-      by : (x : Result (Host M)) → Numbered x → Numbered (write M objects ms x)
-      by (fault number line) g = g
-      by (made h) g = closing h (row15 M (h .state) ms)
+  run-numbered objects opening ms =
+      then-numbered (runFrom M known limit 1 ms (empty M opening)) (close M objects ms) (lines-numbered 1 ms (empty M opening))
+      (λ h. row-numbered 15 (row15 M (h .state) ms) _ (omega arith) tt)
 
 record-numbered : (programs schedule : List ℕ) (m n : ℕ) → Numbered (recordOf programs schedule m n)
-unfolding recordOf batchOf
+unfolding recordOf batchRecorded
 record-numbered programs schedule m n =
-    then-numbered (batchOf programs schedule) _
-    (then-numbered (tableOf programs) _
-    (then-numbered (readAs 1 (readPrograms programs)) _ (read-numbered 1 (readPrograms programs) (omega arith))
-    (λ table. ruled-numbered table (rulingOf table)))
-    (λ table.
-    then-numbered (readAs 13 (readSchedule schedule)) _ (read-numbered 13 (readSchedule schedule) (omega arith))
-    (λ moves. run-numbered (machine limit table) (known table) 1024 16 atStart moves)))
-    (λ b. fitted-numbered m n (textsOf b))
+    let p = readPrograms programs in
+    let s = readSchedule schedule in
+    then-numbered (batchRecorded programs schedule) _
+    (row-numbered 1 (badLine p) _ (omega arith)
+    (row-numbered 2 (row2 (contents [] p)) _ (omega arith)
+    (row-numbered 13 (badLine s) _ (omega arith)
+    (run-numbered (machineOf (contents [] p)) (known (contents [] p)) 1024 16 atStart (contents [] s)))))
+    (λ b. row-numbered 16 (row16 m n (textsOf b)) _ (omega arith) tt)
 
--- ── what was written ──
-texts-audited : (programs u v : List ℕ) (t : Texts) (b : Batch) → u ≡ t .trace → v ≡ t .report → textsOf b ≡ t →
-    auditOf programs (textsOf b .trace) (textsOf b .report) ≡ accepted b → auditOf programs u v ≡ accepted b
-texts-audited programs u v t b p q d e = rw (p, q, ← d) e
+-- ── no check finds a fault ──
+module _ (programs schedule : List ℕ) (m n : ℕ) where
+  abbrev fitting : Result Batch → Result Texts
+  fitting x = andThen x (λ b. fitted m n (textsOf b))
+
+  -- what was read and run, of what was made
+  made-records : (t : Texts) → recordOf programs schedule m n ≡ made t → Records programs schedule m n
+  unfolding recordOf
+  made-records t e =
+      let b = through (batchRecorded programs schedule) (λ b. fitted m n (textsOf b)) t e in
+      record {
+        batch = b .from;
+        ran = ran programs schedule (b .from) (b .before);
+        fits = past 16 (row16 m n (textsOf (b .from))) (made (textsOf (b .from))) t (b .behind) .0;
+      }
+
+  module _ (x : Records programs schedule m n) where
+    records-batch : batchRecorded programs schedule ≡ made (x .batch)
+    unfolding batchRecorded
+    records-batch =
+        let r = x .ran in
+        (λ i. batchFrom (r .tableRead i) (r .movesRead i))
+        ∙ sym (passes fault 2 (row2 (r .table)) (runOf (r .table) (r .moves)) (r .rules))
+        ∙ r .run
+
+    pub records-made : recordOf programs schedule m n ≡ made (textsOf (x .batch))
+    unfolding recordOf
+    records-made =
+        ap fitting records-batch ∙ sym (passes fault 16 (row16 m n (textsOf (x .batch))) (made (textsOf (x .batch))) (x .fits))
+
+    pub records-accepted : auditOf programs (textsOf (x .batch) .trace) (textsOf (x .batch) .report) ≡ accepted (x .batch)
+    records-accepted = batch-accepted programs schedule (x .batch) records-batch
+
+  pub records-exactly : (resultOf (recordOf programs schedule m n) .verdict ≡ 0) ↔ Records programs schedule m n
+  records-exactly = (
+    λ z. by (recordOf programs schedule m n) refl (record-numbered programs schedule m n) z,
+    λ x. ap (λ y. resultOf y .verdict) (records-made x),
+  )
+    where
+      by : (x : Result Texts) → recordOf programs schedule m n ≡ x → Numbered x → resultOf x .verdict ≡ 0 → Records programs schedule m n
+      by (fault number line) e h z = absurd (omega (arith, h, z))
+      by (made t) e h z = made-records t e
 
 -- Demand 3 for the host: on verdict 0 the audit of what it wrote is verdict 0, with its counts.
 module _ (programs schedule trace report traceAfter reportAfter : List ℕ) (r : Recorded) where
   abbrev made-of : Result Texts
   made-of = recordOf programs schedule (length trace) (length report)
 
-  texts-accepted : (t : Texts) → made-of ≡ made t → RecordIs (made t) trace report traceAfter reportAfter r →
-      Accepted programs schedule traceAfter reportAfter r
-  unfolding recordOf
-  texts-accepted t e i =
-      let b = through (batchOf programs schedule) (λ b. fitted (length trace) (length report) (textsOf b)) t e in
-      let d : textsOf (b .from) ≡ t = fitted-made (length trace) (length report) (textsOf (b .from)) t (b .behind) in
-      record {
-        batch = b .from;
-        run = b .before;
-        audited = texts-audited programs _ _ t (b .from) (trace-front i) (report-front i) d
-            (batch-accepted programs schedule (b .from) (b .before));
-      }
-
   pub record-accepted : RecordIs made-of trace report traceAfter reportAfter r → r .verdict ≡ 0 →
       Accepted programs schedule traceAfter reportAfter r
-  record-accepted i z = by made-of refl (record-numbered programs schedule (length trace) (length report)) i
-    where
-      by : (x : Result Texts) → made-of ≡ x → Numbered x → RecordIs x trace report traceAfter reportAfter r →
-          Accepted programs schedule traceAfter reportAfter r
-      by (fault number line) e h i = absurd (omega (arith, h, ap (λ r. r .verdict) (i .result), z))
-      by (made t) e h i = texts-accepted t e i
+  record-accepted i z =
+      let m = length trace in
+      let n = length report in
+      let x = records-exactly programs schedule m n .0 (sym (ap (λ r. r .verdict) (i .result)) ∙ z) in
+      let w = subst (λ y. RecordIs y trace report traceAfter reportAfter r) (records-made programs schedule m n x) i in
+      let t = trace-front w in
+      let p = report-front w in
+      record {
+        batch = x .batch;
+        run = records-batch programs schedule m n x;
+        audited = (λ k. auditOf programs (t k) (p k)) ∙ records-accepted programs schedule m n x;
+      }

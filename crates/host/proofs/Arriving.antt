@@ -18,7 +18,7 @@ use Rattle.model.specs.PlainRun.{Phase, absent, opened, closed}
 use Rattle.model.specs.Ranges.{arrivalsIn}
 use Rattle.model.proofs.Faithful.{faithful-arrive}
 use Rattle.model.proofs.Ranges.{responses-few}
-use Rattle.machine.specs.Instance.{known}
+use Rattle.text.specs.Programs.{known}
 use Rattle.machine.specs.Objects.{atStart}
 use Rattle.host.specs.Moves.{Arrived, ArriveIs}
 use Rattle.host.specs.Requests.{isOpenIn}

@@ -19,8 +19,8 @@ use Rattle.text.specs.declared.trace.Event.{Event}
 use Rattle.text.proofs.RowLaws.{firsts-length, firsts-same}
 use Rattle.ordering.specs.Lists.{All}
 use Rattle.ordering.proofs.Basics.{byBool}
-use Rattle.model.specs.Checks.{firstBad}
-use Rattle.model.specs.Host.{Host, isOpen, bad15, row15, ofsFrom, logsFrom, batchOf}
+use Rattle.model.specs.FirstBad.{firstBad}
+use Rattle.model.specs.Host.{Host, isOpen, bad15, row15, ofsFrom, logsFrom, batchWritten}
 use Rattle.model.specs.PlainRun.{State, Phase, absent, opened, closed, operationsOf}
 use Rattle.host.specs.Recorded.{textsOf}
 use Rattle.host.specs.Requests.{isOpenIn, standingIn, waitsIn}
@@ -170,7 +170,7 @@ logs-same f g h k (suc m) =
 module _ (table : List Program) (slots states ofs events logs sorted : List ℕ) (m t k l : ℕ) (h : Host (M table))
     (g : RequestsIs table slots states ofs m k (h .state .phase) (h .trace)) (e : EventsIs events t (h .trace))
     (x : LinesIs logs k (h .state .logs)) (y : Sorted logs k 16 sorted l) where
-  pub texts-are : heldTexts events t ofs m sorted l ≡ textsOf (batchOf (M table) 16 h)
+  pub texts-are : heldTexts events t ofs m sorted l ≡ textsOf (batchWritten (M table) 16 h)
   texts-are =
       let few : l ≤ 1024 = omega (arith, y .count, lines-few (firsts (entryAt logs) k) 0 16, firsts-length (entryAt logs) k, x .few) in
       let p : min t 128 ≡ t = omega (arith, e .few) in

@@ -2,8 +2,8 @@
 use Prim.Native.Nat.{ℕ, _≤_, _<_}
 use mathlib.Core.List.{List}
 use mathlib.Core.Path.{_≡_, refl}
-use borrow.Author.Tests.{le-leb, lt-leb}
-use lib.Dec.{leb}
+use borrow.Author.Tests.{lt-ltb, le-ltb}
+use lib.Dec.{ltb}
 use lib.ListN.{length}
 use Rattle.lines.specs.Put.{front, writtenOf, PutIs}
 use Rattle.lines.specs.declared.writer.Put.{Put}
@@ -21,15 +21,15 @@ module _ (t : Texts) (o p : List ℕ) where
 
   pub short-trace : length o < length (t .trace) → (r : Recorded) → r ≡ resultOf (fault 16 0) →
       RecordIs (fitted (length o) (length p) t) o p o p r
-  short-trace h = refuses (rw (lt-leb (length (t .trace)) (length o) h) refl)
+  short-trace h = refuses (rw (lt-ltb (length o) (length (t .trace)) h) refl)
 
   pub short-report : length p < length (t .report) → (r : Recorded) → r ≡ resultOf (fault 16 0) →
       RecordIs (fitted (length o) (length p) t) o p o p r
   short-report h =
       refuses
-      (byBool (leb (length (t .trace)) (length o))
-      (λ e. rw (e, lt-leb (length (t .report)) (length p) h) refl)
-      (λ e. rw e refl))
+      (byBool (ltb (length o) (length (t .trace)))
+      (λ e. rw e refl)
+      (λ e. rw (e, lt-ltb (length p) (length (t .report)) h) refl))
 
   pub both-fit : length (t .trace) ≤ length o → length (t .report) ≤ length p → (o′ p′ : List ℕ) (x y : Put) → PutIs (t .trace) o o′ x →
       PutIs (t .report) p p′ y → (u v : ℕ) → u ≡ writtenOf x → v ≡ writtenOf y →
@@ -37,7 +37,7 @@ module _ (t : Texts) (o p : List ℕ) where
   both-fit h k o′ p′ x y f g u v d e =
       let i = put-done (t .trace) o o′ x h f in
       let j = put-done (t .report) p p′ y k g in
-      rw (le-leb (length (t .trace)) (length o) h, le-leb (length (t .report)) (length p) k, d, e)
+      rw (le-ltb (length o) (length (t .trace)) h, le-ltb (length p) (length (t .report)) k, d, e)
       (record {
         result = λ n. record { verdict = 0; line = 0; «trace_len» = i .0 n; «report_len» = j .0 n };
         traceBytes = i .1;

@@ -1,7 +1,8 @@
--- The worked schedules, computed (Stars); what was read is in range (Readings); what is written stands in front of
+-- What the host comes to on texts (Main). The worked schedules, computed (Stars); what was read is in range (Readings); what is written stands in front of
 -- the buffers (Fronts), is accepted (Acceptance) and printed (PrintedTexts);
 -- and the laws that functions rest on: of row 16 (Fitting), of the log by object (Picking, Sorting), of the program table
 -- in numbers (Tables).
+pub mod Main
 mod Stars
 pub mod Readings
 pub mod Fronts

@@ -6,7 +6,8 @@ use native.Mathlib.Nat.{mod-eq-of-lt}
 use native.Mathlib.Omega.{arith}
 use lib.ListN.{length}
 use Rattle.text.specs.Held.{entryAt}
-use Rattle.text.specs.Report.{entryFrom, entryNumbers}
+use Rattle.text.specs.Report.{entryFrom}
+use Rattle.text.specs.Written.{entryNumbers}
 use Rattle.text.specs.Rows.{row, firsts}
 use Rattle.text.specs.declared.report.Entry.{Entry}
 use Rattle.text.proofs.RowLaws.{row-room, row-put, row-before, rows-put, firsts-same}

@@ -8,7 +8,8 @@ use lib.Dec.{eqb}
 use lib.ListN.{length, length-append}
 use borrow.Author.Tests.{eq-eqb, ne-eqb, eqb-true, eqb-false}
 use Rattle.text.specs.Held.{entryAt}
-use Rattle.text.specs.Report.{entryFrom, entryNumbers}
+use Rattle.text.specs.Report.{entryFrom}
+use Rattle.text.specs.Written.{entryNumbers}
 use Rattle.text.specs.Rows.{withRow, firsts}
 use Rattle.text.proofs.RowLaws.{row-room, rows-put}
 use Rattle.ordering.proofs.Basics.{byBool}

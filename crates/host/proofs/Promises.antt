@@ -4,7 +4,7 @@ use mathlib.Core.List.{List, [], _∷_}
 use mathlib.Core.Path.{_≡_, sym, ap, subst, _∙_}
 use Rattle.lines.specs.Place.{cells}
 use Rattle.text.specs.Held.{ofAt, entryAt}
-use Rattle.text.specs.Report.{entryNumbers}
+use Rattle.text.specs.Written.{entryNumbers}
 use Rattle.text.specs.Rows.{row, withRow}
 use Rattle.text.specs.declared.report.Of.{Of}
 use Rattle.text.specs.declared.report.Op.{Op}

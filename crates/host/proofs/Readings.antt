@@ -7,8 +7,7 @@ use native.Mathlib.Omega.{arith}
 use lib.ListN.{length, getD}
 use Rattle.lines.specs.Line.{InRanges, any}
 use Rattle.text.specs.Formats.{doLine, programLine, arriveLine, turnLine}
-use Rattle.text.specs.Held.{noProgram}
-use Rattle.text.specs.Programs.{instrFrom, begun, withInstr, inFrontOf, addProgram, addDo, programKinds, readPrograms}
+use Rattle.text.specs.Programs.{noProgram, instrFrom, begun, withInstr, inFrontOf, addProgram, addDo, programKinds, readPrograms}
 use Rattle.text.specs.Schedule.{arriveFrom, turnFrom, isArrive, addArrive, addTurn, scheduleKinds, readSchedule}
 use Rattle.text.specs.Text.{readable, count}
 use Rattle.text.specs.declared.programs.Instr.{Instr}

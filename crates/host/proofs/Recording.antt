@@ -11,7 +11,7 @@ use Rattle.text.specs.Held.{linesIn, readIn, moveAt, programAt, programsIn, Pro
 use Rattle.text.specs.Programs.{readPrograms}
 use Rattle.text.specs.Rows.{firsts}
 use Rattle.text.specs.Schedule.{readSchedule}
-use Rattle.text.specs.Text.{readable, unreadable}
+use Rattle.text.specs.Text.{Read, readable, unreadable}
 use Rattle.text.specs.declared.kinds.Lines.the-variants.{Readable, Unreadable}
 use Rattle.text.specs.declared.kinds.Lines.{Lines}
 use Rattle.text.specs.declared.programs.Program.{Program}
@@ -20,14 +20,17 @@ use Rattle.text.specs.declared.schedule.Move.the-variants.{Arrive, Turn}
 use Rattle.text.specs.declared.schedule.Move.{Move}
 use Rattle.text.proofs.ProgramsReading.{table-read}
 use Rattle.ordering.specs.Lists.{All}
-use Rattle.model.specs.Checks.{firstBad}
-use Rattle.model.specs.Host.{Result, fault, close, write, batchOf}
-use Rattle.machine.specs.Rules.{rulingOf, brokenLine}
+use Rattle.model.specs.Batch.{Batch}
+use Rattle.model.specs.Checks.{faultOr, badLine, contents}
+use Rattle.model.specs.FirstBad.{firstBad}
+use Rattle.model.specs.Host.{Result, fault, made, close, batchWritten, andThen}
+use Rattle.model.proofs.Scans.{holds, passes}
+use Rattle.machine.specs.Rules.{brokenLine, row2}
 use Rattle.machine.specs.declared.rules.Ruling.the-variants.{Kept, Broken}
 use Rattle.machine.specs.declared.rules.Ruling.{Ruling}
+use Rattle.machine.proofs.Rulings.{broken, kept}
 use Rattle.host.specs.Accepted.{Accepted}
-use Rattle.host.specs.Recorded.{andThen, Texts, textsOf, fitted, recordOf, resultOf, RecordIs}
-use Rattle.host.specs.Recorded as recorded
+use Rattle.host.specs.Recorded.{runOf, batchFrom, batchRecorded, Texts, textsOf, fitted, recordOf, resultOf, RecordIs}
 use Rattle.host.specs.Runs.{leftOpen, M, RidIn, movesIn, ran, recordedMoves, Scheduled, Ready, Finished, RunIs}
 use Rattle.host.specs.Steps.{heldTexts, Sorted}
 use Rattle.host.specs.Tables.{Table, programsOf, Laid}
@@ -63,7 +66,7 @@ module _ (table : List Program) (moves arrivals : List ℕ) (n : ℕ) where
     unfolding RunIs
     at-14 line e =
         let d : ran table moved ≡ fault 14 line = subst (RunIs table moves arrivals n slots states ofs events logs) e f in
-        ap (λ z. andThen (write (M table) 16 moved z) (λ b. fitted u v (textsOf b))) d
+        ap (λ z. andThen (andThen z (close (M table) 16 moved)) (λ b. fitted u v (textsOf b))) d
 
     module _ (c : Counts) (e : x ≡ Ends c) where
       finished : Finished table moves arrivals n slots states ofs events logs c
@@ -74,7 +77,7 @@ module _ (table : List Program) (moves arrivals : List ℕ) (n : ℕ) where
       few-lines = finished .lines .few
 
       abbrev closes : Option ℕ → Result Texts
-      closes o = andThen (close (M table) 16 (finished .host) o) (λ b. fitted u v (textsOf b))
+      closes o = andThen (faultOr fault 15 o (made (batchWritten (M table) 16 (finished .host)))) (λ b. fitted u v (textsOf b))
 
       closing : (s : Scheduled moves arrivals n) → (o : Option ℕ) → o ≡ firstBad (leftOpen slots states) 1 [] moved →
           recordedMoves table moved u v ≡ closes o
@@ -82,7 +85,7 @@ module _ (table : List Program) (moves arrivals : List ℕ) (n : ℕ) where
           let w = finished in
           let z = row15-is table slots states ofs (c .requests) (c .operations) (w .host .state) (w .host .trace) (w .requests) moved
           (s .rids) in
-          ap (λ z. andThen (write (M table) 16 moved z) (λ b. fitted u v (textsOf b))) (w .made-it)
+          ap (λ z. andThen (andThen z (close (M table) 16 moved)) (λ b. fitted u v (textsOf b))) (w .made-it)
           ∙ ap closes (z ∙ sym d)
 
       module _ (s : Scheduled moves arrivals n) (y : Ruling) (d : brokenLine y ≡ firstBad (leftOpen slots states) 1 [] moved) where
@@ -107,51 +110,66 @@ rids-in (Arrive r prog a b ∷ ms) h = (omega (arith, h .0 .0), rids-in ms (h .1
 rids-in (Turn r ∷ ms) h = (tt, rids-in ms (h .1))
 
 module _ (s schedule : List ℕ) (u v : ℕ) (ps : Programs) (h : ProgramsIs s ps) where
+  -- what is made of a batch, and of texts that were read
+  abbrev fit : Result Batch → Result Texts
+  fit x = andThen x (λ b. fitted u v (textsOf b))
+
+  abbrev fromRead : Read (List Program) → Read (List Move) → Result Texts
+  fromRead programs moves = fit (batchFrom programs moves)
+
   pub at-1 : ps .ok ≡ false → recordOf s schedule u v ≡ fault 1 (ps .line)
-  unfolding recordOf recorded.batchOf programsIn
-  at-1 e = let z : unreadable (ps .line) ≡ readPrograms s = rw e at (h .read) in rw (← z) refl
+  unfolding recordOf batchRecorded programsIn
+  at-1 e =
+      let z : unreadable (ps .line) ≡ readPrograms s = rw e at (h .read) in
+      sym (ap (λ p. fromRead p (readSchedule schedule)) z)
 
   module _ (ok : ps .ok ≡ true) where
-    module _ (r : Ruling) (e : r ≡ rulingOf (firsts (programAt (ps .table)) (min (ps .n) 16))) where
-      rules : r ≡ rulingOf (tableIn ps)
+    abbrev table : List Program
+    table = tableIn ps
+
+    programs-read : fromRead (readable table) (readSchedule schedule) ≡ recordOf s schedule u v
+    unfolding recordOf batchRecorded
+    programs-read = ap (λ p. fromRead p (readSchedule schedule)) (table-read s ps h ok)
+
+    module _ (r : Ruling) (e : brokenLine r ≡ row2 (firsts (programAt (ps .table)) (min (ps .n) 16))) where
+      rules : brokenLine r ≡ row2 table
       rules =
           let z : min (ps .n) 16 ≡ ps .n = omega (arith, h .few) in
-          e ∙ ap (λ n. rulingOf (firsts (programAt (ps .table)) n)) z
+          e ∙ ap (λ n. row2 (firsts (programAt (ps .table)) n)) z
 
       pub at-2 : (line : ℕ) → r ≡ Broken line → recordOf s schedule u v ≡ fault 2 line
-      unfolding recordOf recorded.batchOf
-      at-2 line d =
-          let z : rulingOf (tableIn ps) ≡ Broken line = sym rules ∙ d in
-          rw (← table-read s ps h ok, z) refl
+      at-2 line d = sym (ap fit (holds fault 2 (row2 table) _ line (broken r (row2 table) line rules d)) ∙ programs-read)
 
       module _ (k : r ≡ Kept) (l : Lines) (moves arrivals : List ℕ) (g : ScheduleIs schedule l moves arrivals) where
-        z : rulingOf (tableIn ps) ≡ Kept
-        z = sym rules ∙ k
+        -- rows 1 and 2 do not hold
+        past-2 : (m : Read (List Move)) → m ≡ readSchedule schedule →
+            fit (faultOr fault 13 (badLine m) (runOf table (contents [] m))) ≡ recordOf s schedule u v
+        past-2 m e =
+            ap fit (passes fault 2 (row2 table) (faultOr fault 13 (badLine m) (runOf table (contents [] m))) (kept r (row2 table) rules k))
+            ∙ ap (fromRead (readable table)) e
+            ∙ programs-read
 
         pub at-13 : (line : ℕ) → l ≡ Unreadable line → recordOf s schedule u v ≡ fault 13 line
-        unfolding recordOf recorded.batchOf readIn
-        at-13 line d =
-            let w : unreadable line ≡ readSchedule schedule = sym (ap (readIn (moveAt moves arrivals)) d) ∙ g .read in
-            rw (← table-read s ps h ok, z, ← w) refl
+        unfolding readIn
+        at-13 line d = sym (past-2 (unreadable line) (sym (ap (readIn (moveAt moves arrivals)) d) ∙ g .read))
 
         module _ (n : ℕ) (d : l ≡ Readable n) where
           moves-read : readSchedule schedule ≡ readable (movesIn moves arrivals n)
           unfolding readIn
           moves-read = sym (g .read) ∙ ap (readIn (moveAt moves arrivals)) d
 
-          pub past-13 : (table : Table) → Laid ps table →
-              recordOf s schedule u v ≡ recordedMoves (programsOf table (ps .n)) (movesIn moves arrivals n) u v
-          unfolding recordOf recorded.batchOf
-          past-13 table w =
-              rw (← table-read s ps h ok, z, moves-read)
-              (recorded-same ps table (h .few) (h .bounded) w (movesIn moves arrivals n) u v)
+          pub past-13 : (laid : Table) → Laid ps laid →
+              recordOf s schedule u v ≡ recordedMoves (programsOf laid (ps .n)) (movesIn moves arrivals n) u v
+          past-13 laid w =
+              sym (past-2 (readable (movesIn moves arrivals n)) (sym moves-read))
+              ∙ recorded-same ps laid (h .few) (h .bounded) w (movesIn moves arrivals n) u v
 
           pub scheduled : Scheduled moves arrivals n
           scheduled =
               let w = schedule-in schedule (movesIn moves arrivals n) moves-read in
               record {
-                lines = subst (λ l. linesIn l ≤ 9362) d (g .few);
-                movesRoom = g .room;
+                lines = subst (λ l. linesIn l ≤ 9362) d (g .fewMoves);
+                movesRoom = g .roomMoves;
                 rids = rids-in (movesIn moves arrivals n) (w .moves);
                 arrivalsFew = w .few;
               }

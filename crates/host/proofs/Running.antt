@@ -24,7 +24,7 @@ use Rattle.model.specs.Host.{Host, empty, broken, on, Result, fault, goOn, step
 use Rattle.model.specs.Ranges.{requestsIn, responsesIn, arrivalsIn}
 use Rattle.model.proofs.Faithful.{Faithful, faithful-empty}
 use Rattle.model.proofs.LineScans.{from, firsts-from, from-next, from-end}
-use Rattle.machine.specs.Instance.{known}
+use Rattle.text.specs.Programs.{known}
 use Rattle.machine.specs.Objects.{atStart}
 use Rattle.machine.proofs.Passing.{registers-start, index-start}
 use Rattle.host.specs.Moves.{counts}

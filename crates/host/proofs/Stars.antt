@@ -4,30 +4,29 @@ use Prim.Native.Nat.{ℕ, zero, suc}
 use Prim.Native.String.{String}
 use mathlib.Core.List.{List, [], _∷_, _++_, map}
 use mathlib.Core.Path.{_≡_, refl}
-use Rattle.lines.specs.Bytes.{bytes}
 use Rattle.lines.specs.Decimal.{digitsIn, decimal}
 use Rattle.lines.specs.Line.{prefix, fieldOf, fieldsOf, lineOf}
 use Rattle.lines.specs.LineText.{separatorOf, numbersText, lineText}
 use Rattle.lines.specs.Number.{pushOf, digitsOf, numberOf}
 use Rattle.lines.specs.Parts.{onto, parts}
 use Rattle.text.specs.Programs.{addProgram, addDo, readPrograms}
-use Rattle.text.specs.Report.{addOf, addLog, readReport, ofText, entryText, reportText}
+use Rattle.text.specs.Report.{addOf, addLog, readReport}
+use Rattle.text.specs.Written.{ofText, entryText, reportText, linesText, eventText, traceText}
 use Rattle.text.specs.Schedule.{addArrive, addTurn, readSchedule}
-use Rattle.text.specs.Text.{within, count, linesText, addLine, readLines, readText}
-use Rattle.text.specs.Trace.{addRequest, addResponse, readTrace, eventText, traceText}
+use Rattle.text.specs.Text.{within, count, addLine, readLines, readText}
+use Rattle.text.specs.Trace.{addRequest, addResponse, readTrace}
 use Rattle.writing.specs.Verdict.{verdictText}
 use Rattle.ordering.specs.Maps.{upd}
-use Rattle.ordering.specs.Order.{bump}
+use Rattle.ordering.specs.Merge.{bump}
 use Rattle.model.specs.Host.{Result, fault, made}
 use Rattle.machine.specs.Instructions.{effectAs}
 use Rattle.machine.specs.Processes.{go}
-use Rattle.machine.specs.Rules.{instructions, programs}
 use Rattle.verifier.specs.Faults.{auditOf}
 use Rattle.verifier.specs.declared.Audited.{Audited}
 use Rattle.verifier.proofs.Stars as audit
 use Rattle.verifier.proofs.Stars.{text, audits, programsABC, traceC, reportC, replies}
 use Rattle.host.specs.Printed.{recordedText}
-use Rattle.host.specs.Recorded.{Texts, batchOf, recordOf, resultOf}
+use Rattle.host.specs.Recorded.{Texts, batchRecorded, recordOf, resultOf}
 use Rattle.host.specs.declared.Recorded.{Recorded}
 
 -- programs and a schedule as their lines, the room for the two texts, and what the host makes of them
@@ -92,13 +91,12 @@ abbrev table : List Star
 table = map batch audit.cases ++ map run cases
 
 stars : map meaningOf table ≡ map expected table
-unfolding auditOf recordOf batchOf readPrograms readTrace readReport readSchedule readText readLines addLine lineOf fieldsOf fieldOf prefix
-    numberOf digitsOf pushOf parts onto within count addProgram addDo addRequest addResponse addOf addLog addArrive addTurn programs
-    instructions go effectAs upd bump traceText reportText linesText eventText ofText entryText lineText numbersText separatorOf decimal
-    digitsIn
+unfolding auditOf recordOf batchRecorded readPrograms readTrace readReport readSchedule readText readLines addLine lineOf fieldsOf fieldOf prefix
+    numberOf digitsOf pushOf parts onto within count addProgram addDo addRequest addResponse addOf addLog addArrive addTurn go effectAs
+    upd bump traceText reportText linesText eventText ofText entryText lineText numbersText separatorOf decimal digitsIn
 stars = refl
 
--- what the program prints: C's texts behind the verdict lines, and a refusal's verdict lines alone
+-- what the program prints: C's texts behind the verdict with its line, and of a refusal that alone
 printed : map recordedText (writesC ∷ fault 15 1 ∷ [])
     ≡ text ("verdict=0" ∷ "line=0" ∷ (trace ++ report)) ∷ text ("verdict=15" ∷ "line=1" ∷ []) ∷ []
 unfolding recordedText verdictText lineText numbersText separatorOf decimal digitsIn
@@ -128,8 +126,8 @@ small =
     ∷ []
 
 rows-13-to-16 : map records small ≡ map (λ c. c .writes) small
-unfolding recordOf batchOf readPrograms readSchedule readText readLines addLine lineOf fieldsOf fieldOf prefix numberOf digitsOf pushOf
-    parts onto within count addProgram addDo addArrive addTurn programs instructions go effectAs upd
+unfolding recordOf batchRecorded readPrograms readSchedule readText readLines addLine lineOf fieldsOf fieldOf prefix numberOf digitsOf pushOf
+    parts onto within count addProgram addDo addArrive addTurn go effectAs upd
     traceText reportText linesText eventText ofText entryText lineText numbersText separatorOf decimal digitsIn
 rows-13-to-16 = refl
 
@@ -149,14 +147,14 @@ recordedAs verdict line trace report = record { verdict = verdict; line = line; 
 
 -- it is carried out and logged, and the next turn cuts
 last-instruction : results ("arrive=1,0,0,0" ∷ times 129 "turn=1" []) ≡ recordedAs 0 0 31 2207
-unfolding recordOf batchOf readPrograms readSchedule readText readLines addLine lineOf fieldsOf fieldOf prefix numberOf digitsOf pushOf
-    parts onto within count addProgram addDo addArrive addTurn programs instructions go effectAs upd
+unfolding recordOf batchRecorded readPrograms readSchedule readText readLines addLine lineOf fieldsOf fieldOf prefix numberOf digitsOf pushOf
+    parts onto within count addProgram addDo addArrive addTurn go effectAs upd
     traceText reportText linesText eventText ofText entryText lineText numbersText separatorOf decimal digitsIn
 last-instruction = refl
 
 still-open : results ("arrive=1,0,0,0" ∷ times 128 "turn=1" []) ≡ recordedAs 15 1 0 0
-unfolding recordOf batchOf readPrograms readSchedule readText readLines addLine lineOf fieldsOf fieldOf prefix numberOf digitsOf pushOf
-    parts onto within count addProgram addDo addArrive addTurn programs instructions go effectAs upd
+unfolding recordOf batchRecorded readPrograms readSchedule readText readLines addLine lineOf fieldsOf fieldOf prefix numberOf digitsOf pushOf
+    parts onto within count addProgram addDo addArrive addTurn go effectAs upd
     traceText reportText linesText eventText ofText entryText lineText numbersText separatorOf decimal digitsIn
 still-open = refl
 
@@ -172,13 +170,13 @@ nine ls =
     ∷ "arrive=7,0,0,0" ∷ "arrive=8,0,0,0" ∷ "arrive=9,0,0,0" ∷ ls
 
 one-too-many : results (nine (turnsOf8 ("turn=9" ∷ []))) ≡ recordedAs 14 1034 0 0
-unfolding recordOf batchOf readPrograms readSchedule readText readLines addLine lineOf fieldsOf fieldOf prefix numberOf digitsOf pushOf
-    parts onto within count addProgram addDo addArrive addTurn programs instructions go effectAs upd
+unfolding recordOf batchRecorded readPrograms readSchedule readText readLines addLine lineOf fieldsOf fieldOf prefix numberOf digitsOf pushOf
+    parts onto within count addProgram addDo addArrive addTurn go effectAs upd
     traceText reportText linesText eventText ofText entryText lineText numbersText separatorOf decimal digitsIn
 one-too-many = refl
 
 enough : results (nine (turnsOf8 [])) ≡ recordedAs 15 1 0 0
-unfolding recordOf batchOf readPrograms readSchedule readText readLines addLine lineOf fieldsOf fieldOf prefix numberOf digitsOf pushOf
-    parts onto within count addProgram addDo addArrive addTurn programs instructions go effectAs upd
+unfolding recordOf batchRecorded readPrograms readSchedule readText readLines addLine lineOf fieldsOf fieldOf prefix numberOf digitsOf pushOf
+    parts onto within count addProgram addDo addArrive addTurn go effectAs upd
     traceText reportText linesText eventText ofText entryText lineText numbersText separatorOf decimal digitsIn
 enough = refl

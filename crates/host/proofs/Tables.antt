@@ -8,25 +8,25 @@ use lib.Dec.{ltb}
 use lib.ListN.{length, getD, set, length-set, List·getD-eq-default}
 use borrow.Author.Tests.{ltb-true, ltb-false}
 use Rattle.text.specs.Formats.{mostEntries}
-use Rattle.text.specs.Held.{noInstr, noProgram, Bounded, tableIn}
-use Rattle.text.specs.Programs.{instrFrom}
+use Rattle.text.specs.Held.{Bounded, tableIn}
+use Rattle.text.specs.Programs.{noInstr, noProgram, instrFrom}
 use Rattle.text.specs.declared.programs.Instr.{Instr}
 use Rattle.text.specs.declared.programs.Program.{Program}
 use Rattle.text.specs.declared.programs.Programs.{Programs}
 use Rattle.text.specs.declared.schedule.Move.{Move}
 use Rattle.text.proofs.RowLaws.{firsts-length, firsts-at, set-next}
 use Rattle.ordering.proofs.Basics.{byBool}
-use Rattle.model.specs.Host.{recorded}
+use Rattle.model.specs.Host.{recorded, andThen}
 use Rattle.machine.specs.Instance.{codeAt}
 use Rattle.machine.specs.Instructions.{effect, effectOf}
 use Rattle.machine.specs.Objects.{atStart}
-use Rattle.machine.specs.Processes.{advanced, limit, instrAt, follow, stopAt, advanceOf}
+use Rattle.machine.specs.Processes.{advanced, limit, instrAt, stopAt, advanceOf}
 use Rattle.machine.specs.declared.instructions.Act.{Act}
 use Rattle.machine.specs.declared.processes.Next.the-variants.{Cut}
-use Rattle.machine.proofs.Steps.{one, cut}
+use Rattle.machine.proofs.Steps.{follow, one, cut}
 use Rattle.machine.proofs.Tables.{same-code, machine-same}
 use Rattle.host.specs.Moves.{pathless}
-use Rattle.host.specs.Recorded.{andThen, textsOf, fitted}
+use Rattle.host.specs.Recorded.{textsOf, fitted}
 use Rattle.host.specs.Runs.{recordedMoves}
 use Rattle.host.specs.Tables.{Table, instrIn, codeIn, programsOf, CodeIs, Laid}
 

@@ -28,10 +28,11 @@ use Rattle.model.specs.Ranges.{arrivalsIn}
 use Rattle.model.proofs.Faithful.{hasArrived, isClosed, faithful-operate, faithful-reply, add-response}
 use Rattle.model.proofs.Ranges.{responses-few, requests-append}
 use Rattle.machine.specs.Index.{stored, performed, performOf}
-use Rattle.machine.specs.Instance.{Process, nextOf, intoOf, behindAll, codeAt, gone, known}
+use Rattle.machine.specs.Instance.{Process, nextOf, intoOf, codeAt, gone}
+use Rattle.text.specs.Programs.{known}
 use Rattle.machine.specs.Logs.{ops}
 use Rattle.machine.specs.Objects.{atStart}
-use Rattle.machine.specs.Processes.{Advanced, limit, advanceOf, resumed}
+use Rattle.machine.specs.Processes.{Advanced, behind, limit, advanceOf, resumed}
 use Rattle.machine.specs.declared.processes.Next.the-variants.{Operation, Reply, Cut}
 use Rattle.machine.specs.declared.processes.Next.{Next}
 use Rattle.machine.proofs.Bounds.{within}
@@ -78,10 +79,10 @@ use Rattle.host.proofs.Slots.{
 -- a process that stands in row v goes on as the row does
 gone-as : (U : List Program) (table : Table) (v : List ℕ) (p : Process) → p .prog ≡ progressIn v .prog → p .locals ≡ localsIn v →
     p .at ≡ progressIn v .at → p .done ≡ progressIn v .done → codeAt U (progressIn v .prog) ≡ codeIn table (progressIn v .prog) →
-    gone limit U p ≡ behindAll (p .path) (wentOn table v)
+    gone limit U p ≡ behind (p .path) (wentOn table v)
 gone-as U table v p q l a d same =
     let e : codeAt U (p .prog) ≡ codeIn table (progressIn v .prog) = ap (codeAt U) q ∙ same in
-    λ i. behindAll (p .path) (advanceOf limit (e i) (l i) (a i) (d i))
+    λ i. behind (p .path) (advanceOf limit (e i) (l i) (a i) (d i))
 
 module _ {U : List Program} {moves arrivals : List ℕ} {n i : ℕ} {c : Counts} {slots states ofs events logs registers heads befores : List ℕ}
     (g : Running U moves arrivals n i c slots states ofs events logs registers heads befores) (h : i < n)
@@ -198,7 +199,7 @@ module _ {U : List Program} {moves arrivals : List ℕ} {n i : ℕ} {c : Counts}
       abbrev went : Advanced
       went = wentOn table v
 
-      goes : gone limit U p ≡ behindAll (p .path) went
+      goes : gone limit U p ≡ behind (p .path) went
       goes = gone-as U table v p (is .prog) (is .locals) (is .at) (is .done) same
 
       advances : (x : Next) → went .stop .next ≡ x → M U .advance p ≡ nextOf x

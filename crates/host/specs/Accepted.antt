@@ -8,13 +8,13 @@ use Rattle.text.specs.Trace.{isRequest}
 use Rattle.model.specs.Batch.{Batch}
 use Rattle.model.specs.Host.{made}
 use Rattle.verifier.specs.Faults.{auditOf}
-use Rattle.host.specs.Recorded.{batchOf}
+use Rattle.host.specs.Recorded.{batchRecorded}
 use Rattle.host.specs.declared.Recorded.{Recorded}
 
 -- the run made a batch, and the audit of these programs with the fronts that were written is verdict 0, with the counts of that batch
 pub record Accepted (programs schedule traceAfter reportAfter : List ℕ) (r : Recorded) : Type 0 where
   pub batch : Batch
-  pub run : batchOf programs schedule ≡ made batch
+  pub run : batchRecorded programs schedule ≡ made batch
   pub audited :
       auditOf programs (take (r .«trace_len») traceAfter) (take (r .«report_len») reportAfter)
       ≡ record { verdict = 0; line = 0; requests = count isRequest (batch .trace); operations = length (batch .log) }

@@ -1,5 +1,6 @@
 -- The definitions, in reading order.
 pub mod Recorded
+pub mod Records
 pub mod Accepted
 pub mod Printed
 -- What private functions promise

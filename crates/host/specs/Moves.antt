@@ -5,7 +5,7 @@ use mathlib.Core.List.{List, [], _∷_}
 use lib.ListN.{getD, set}
 use Rattle.lines.specs.Place.{cells}
 use Rattle.text.specs.Held.{ofAt, entryAt}
-use Rattle.text.specs.Report.{entryNumbers}
+use Rattle.text.specs.Written.{entryNumbers}
 use Rattle.text.specs.Rows.{row, withRow}
 use Rattle.text.specs.declared.report.Entry.{Entry}
 use Rattle.text.specs.declared.report.Op.{Op}

@@ -14,14 +14,14 @@ use Rattle.text.specs.declared.schedule.Move.{Move}
 use Rattle.text.specs.declared.trace.Event.the-variants.{Request, Response}
 use Rattle.text.specs.declared.trace.Event.{Event}
 use Rattle.ordering.specs.Lists.{All}
-use Rattle.model.specs.Host.{Host, Result, fault, made, empty, runFrom}
+use Rattle.model.specs.Host.{Host, Result, fault, made, empty, runFrom, andThen}
 use Rattle.model.specs.Machine.{Machine}
 use Rattle.model.specs.PlainRun.{Phase, absent, opened, closed}
 use Rattle.model.specs.Ranges.{arrivalsIn}
-use Rattle.machine.specs.Instance.{machine, known}
+use Rattle.machine.specs.Instance.{machineOf}
+use Rattle.text.specs.Programs.{known}
 use Rattle.machine.specs.Objects.{atStart}
-use Rattle.machine.specs.Processes.{limit}
-use Rattle.host.specs.Recorded.{andThen, runOf, Texts, textsOf, fitted}
+use Rattle.host.specs.Recorded.{runOf, Texts, textsOf, fitted}
 use Rattle.host.specs.Requests.{isOpenIn, progressIn, localsIn, waitsIn, standingIn}
 use Rattle.host.specs.Steps.{linesOf}
 use Rattle.host.specs.declared.runs.Run.the-variants.{Breaks, Ends}
@@ -64,7 +64,7 @@ pub record RowIs (n : ℕ) (slots states ofs : List ℕ) (k s : ℕ) : Type 0 wh
 
 module _ (table : List Program) where
   abbrev pub M : Machine
-  M = machine limit table
+  M = machineOf table
 
   abbrev pub seen : Phase M → Seen
   seen absent = missing

@@ -4,9 +4,8 @@ use mathlib.Core.List.{List, _++_}
 use lib.ListN.{length}
 use mathlib.Core.Path.{_≡_}
 use Rattle.text.specs.Held.{eventAt, entryAt, reportOf}
-use Rattle.text.specs.Report.{reportText}
+use Rattle.text.specs.Written.{reportText, traceText}
 use Rattle.text.specs.Rows.{firsts}
-use Rattle.text.specs.Trace.{traceText}
 use Rattle.text.specs.declared.report.Entry.{Entry}
 use Rattle.model.specs.Batch.{logOf}
 use Rattle.model.specs.Host.{logsFrom}

@@ -3,8 +3,7 @@ use Prim.Native.Nat.{ℕ, _%_, _<_}
 use mathlib.Core.List.{List, []}
 use mathlib.Core.Path.{_≡_}
 use lib.ListN.{getD}
-use Rattle.text.specs.Held.{noProgram}
-use Rattle.text.specs.Programs.{instrFrom}
+use Rattle.text.specs.Programs.{noProgram, instrFrom}
 use Rattle.text.specs.Rows.{firsts}
 use Rattle.text.specs.declared.programs.Instr.{Instr}
 use Rattle.text.specs.declared.programs.Program.{Program}

@@ -4,7 +4,7 @@ use text::entry_at;
 ghost use mathlib.Core.Path.{_≡_};
 ghost use Prim.Native.Nat.{_<_, _≤_};
 ghost use lib.ListN.{length};
-ghost use Rattle.text.specs.Report.{entryNumbers};
+ghost use Rattle.text.specs.Written.{entryNumbers};
 ghost use Rattle.text.specs.Rows.{withRow};
 ghost use Rattle.host.specs.Steps.{RoomFor, Picked, Sorted};
 

@@ -7,12 +7,12 @@ use writing::put_verdict;
 use writing::verdict_width;
 ghost use mathlib.Core.List.{_++_};
 ghost use mathlib.Core.Path.{_≡_};
-ghost use Prim.Native.Nat.{_+_};
+ghost use Prim.Native.Nat.{_+_, _≤_};
 ghost use lib.Dec.{ltb};
 ghost use lib.ListN.{length};
 ghost use Rattle.lines.specs.Put.{PutIs};
 ghost use Rattle.writing.specs.Verdict.{verdictText};
-ghost use Rattle.host.specs.Printed.{recordedText};
+ghost use Rattle.host.specs.Printed.{recordedText, mostPrinted};
 ghost use Rattle.host.specs.Recorded.{recordOf};
 
 // Whether out is too short for so many bytes, then b, then c. No sum is taken, since none is known to stay below 2^64.
@@ -31,7 +31,7 @@ fn too_short(out: &[u8], a: usize, b: &[u8], c: &[u8]) -> bool
     false
 }
 
-// Writes the verdict lines, a trace and a report to the front of out, or nothing where out is too short.
+// Writes the verdict with its line, a trace and a report to the front of out, or nothing where out is too short.
 fn put_recorded(verdict: u64, line: u64, trace: &[u8], report: &[u8], out: &mut [u8]) -> Put
     ensures { λ r. ⌜ PutIs (verdictText verdict line ++ (now (trace .entry) ++ now (report .entry)))
         (now (out .entry)) (now (out .exit)) r ⌝ }
@@ -47,12 +47,14 @@ fn put_recorded(verdict: u64, line: u64, trace: &[u8], report: &[u8], out: &mut 
     Put::Wrote(at + written(r))
 }
 
-// The run of a schedule as it is printed: the verdict lines, then trace and report, to the front of out, or nothing where out is too short.
-// The two buffers are as long as a text may be, so that row 16 cannot come (`never-short`).
+// The run of a schedule as it is printed: the verdict with its line, then trace and report, to the front of out, or nothing where out is
+// too short, which one of `mostPrinted` bytes never is. The two buffers are as long as a text may be, so that row 16 cannot come
+// (`never-short`).
 pub fn record_text(programs: &[u8], schedule: &[u8], out: &mut [u8]) -> Put
-    ensures { λ r. ⌜ PutIs
+    ensures printed { λ r. ⌜ PutIs
         (recordedText (recordOf (now (programs .entry)) (now (schedule .entry)) 65535 65535))
         (now (out .entry)) (now (out .exit)) r ⌝ }
+    ensures most { λ _. ⌜ length (recordedText (recordOf (now (programs .entry)) (now (schedule .entry)) 65535 65535)) ≤ mostPrinted ⌝ }
 {
     let mut trace = [0u8; 65535];
     let mut report = [0u8; 65535];

@@ -14,7 +14,7 @@ ghost use Prim.Native.Nat.{_%_};
 ghost use lib.ListN.{length, getD};
 ghost use Rattle.text.specs.Held.{moveAt};
 ghost use Rattle.text.specs.Rows.{firsts};
-ghost use Rattle.model.specs.Checks.{firstBad};
+ghost use Rattle.model.specs.FirstBad.{firstBad};
 ghost use Rattle.machine.specs.Rules.{brokenLine};
 ghost use Rattle.host.specs.Requests.{waitsIn, standingIn};
 ghost use Rattle.host.specs.Tables.{programsOf};

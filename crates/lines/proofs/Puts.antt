@@ -4,7 +4,7 @@ use mathlib.Core.List.{List, [], _∷_, _++_, append-assoc}
 use mathlib.Core.Path.{_≡_, refl, sym, _∙_, ap}
 use native.Mathlib.Omega.{arith}
 use native.Mathlib.Numerals.{add-one}
-use lib.ListN.{length, take, drop, set, length-append}
+use lib.ListN.{length, take, drop, set, length-append, length-drop}
 use lib.Seq.{drop-cons, set-at, take-append-seam}
 use borrow.Author.Tests.{lt-ltb, le-ltb}
 use Rattle.lines.specs.Put.{writtenOf, front, putOf, leftOf, PutIs}
@@ -26,6 +26,14 @@ put-done t o p r h i =
     let e : putOf t o ≡ Wrote (length t) = simp (le-ltb _ _ h, putOf) in
     let f : leftOf t o ≡ front t o = simp (le-ltb _ _ h, leftOf) in
     (ap writtenOf (i .answer ∙ e), i .bytes ∙ f)
+
+-- and the buffer is as long as it was
+pub put-whole : (t o p : List ℕ) (r : Put) → PutIs t o p r → length t ≤ length o →
+    (writtenOf r ≡ length t) × (p ≡ front t o) × (length p ≡ length o)
+unfolding front
+put-whole t o p r i h =
+    let d = put-done t o p r h i in
+    (d .0, d .1, omega (arith, h, ap length (d .1), length-append t (drop (length t) o), length-drop (length t) o))
 
 -- the text is what stands in front
 pub front-taken : (t o : List ℕ) → take (length t) (front t o) ≡ t

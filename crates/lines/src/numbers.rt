@@ -81,7 +81,7 @@ fn digits_at(s: &[u8], at: usize) -> Spelled
 }
 
 // The number from at on, up to a comma, a line feed or the end.
-pub fn number_at(s: &[u8], at: usize) -> Spelled
+pub(crate) fn number_at(s: &[u8], at: usize) -> Spelled
     ensures { λ r. ⌜ r ≡ spelledAt (now (s .entry)) at ⌝ }
 {
     if s.len() <= at {

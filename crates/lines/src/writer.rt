@@ -24,7 +24,7 @@ pub fn written(p: Put) -> usize
 }
 
 // How many bytes v takes in decimal.
-pub fn width(v: u64) -> usize
+pub(crate) fn width(v: u64) -> usize
     ensures { λ r. ⌜ r ≡ length (decimal v) ⌝ }
     ensures { λ r. ⌜ r ≤ 20 ⌝ }
 {

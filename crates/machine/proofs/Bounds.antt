@@ -20,8 +20,9 @@ use Rattle.machine.specs.declared.processes.Next.{Next}
 use Rattle.machine.specs.declared.processes.Next.the-variants.{Operation, Reply, Cut}
 use Rattle.machine.specs.Codes.{Code, reply, constant, add, subtract, less, jump, read, write, get, put, other, codeOf}
 use Rattle.machine.specs.Instructions.{Effect, effectAs, effectOf, local}
-use Rattle.machine.specs.Processes.{Advanced, behind, follow, go, instrAt, resumed}
+use Rattle.machine.specs.Processes.{Advanced, behind, go, instrAt, resumed}
 use Rattle.machine.specs.Objects.{Content, register, store, reads, apply, changes, written, valueOf}
+use Rattle.machine.proofs.Steps.{follow}
 use Rattle.machine.specs.Instance.{Process, machine, nextOf, intoOf, codeAt, gone}
 
 -- numbers of 64 bits
@@ -76,10 +77,10 @@ module _ (W : List ℕ → Type 0) (F : Op → Type 0) (R : ℕ → Type 0) wher
 
   follows : (e : Effect) (k at n done : ℕ) (f : List ℕ → ℕ → Advanced) → FitEffect e
       → ((l : List ℕ) (to : ℕ) → W l → FitAdvanced k (done + 1) (f l to))
-      → FitAdvanced (suc k) done (behind at (follow (e .act) (e .locals) n (done + 1) f))
+      → FitAdvanced (suc k) done (behind (at ∷ []) (follow (e .act) (e .locals) n (done + 1) f))
   follows e k at n done f w g = by (e .act) (e .locals) (w .0) (w .1)
     where
-      by : (x : Act) (m : List ℕ) → W m → FitAct x → FitAdvanced (suc k) done (behind at (follow x m n (done + 1) f))
+      by : (x : Act) (m : List ℕ) → W m → FitAct x → FitAdvanced (suc k) done (behind (at ∷ []) (follow x m n (done + 1) f))
       by (Goes to) m h v =
           let r = g m to h in
           record {
@@ -99,7 +100,7 @@ module _ (W : List ℕ → Type 0) (F : Op → Type 0) (R : ℕ → Type 0) wher
       (λ m to. go k code m to (done + 1)) (b l at (at % 64 + 1) h) (λ m to g. goes k code b m to (done + 1) g)
 
 -- ── what the model asks ──
-operation : (x : Next) (o : Op) → nextOf x ≡ op o → (into : ℕ) × (x ≡ Operation o into)
+pub operation : (x : Next) (o : Op) → nextOf x ≡ op o → (into : ℕ) × (x ≡ Operation o into)
 operation (Operation u into) o e = (into, cc)
 operation (Reply v) o e = clash (cc)
 operation Cut o e = clash (cc)

@@ -3,6 +3,7 @@ use Prim.Native.Nat.{ℕ, _+_, _-_, _^_}
 use mathlib.Core.Path.{_≡_, refl}
 use mathlib.Core.Bool.{true, false}
 use mathlib.Core.List.{List, [], _∷_, _++_, map}
+use mathlib.Core.Option.{none, some}
 use lib.ListN.{getD, length, replicate}
 use Rattle.text.specs.declared.programs.Instr.{Instr}
 use Rattle.text.specs.declared.programs.Program.{Program}
@@ -10,10 +11,9 @@ use Rattle.text.specs.declared.report.Op.{Op}
 use Rattle.machine.specs.declared.instructions.Act.the-variants.{Goes, Asks, Replies}
 use Rattle.machine.specs.declared.processes.Next.{Next}
 use Rattle.machine.specs.declared.processes.Next.the-variants.{Operation, Reply, Cut}
-use Rattle.machine.specs.declared.rules.Ruling.the-variants.{Kept, Broken}
 use Rattle.machine.specs.Instructions.{effect, effectAs, effectOf}
 use Rattle.machine.specs.Processes.{Advanced, firstLocals, go, advanceOf, limit}
-use Rattle.machine.specs.Rules.{keepsFields, instructions, programs, rulingOf}
+use Rattle.machine.specs.Rules.{keepsFields, row2}
 use Rattle.machine.specs.Objects.{atStart}
 use Rattle.machine.specs.Logs.{answersFrom}
 
@@ -27,26 +27,26 @@ abbrev top : ℕ
 top = 2 ^ 64 - 1
 
 -- ── one instruction ──
-abbrev some : List ℕ
-some = 5 ∷ 3 ∷ 9 ∷ 0 ∷ 0 ∷ 0 ∷ 0 ∷ 0 ∷ []
+abbrev three : List ℕ
+three = 5 ∷ 3 ∷ 9 ∷ 0 ∷ 0 ∷ 0 ∷ 0 ∷ 0 ∷ []
 
 -- each code, at locals 5, 3, 9; code 5 taken and not; 10 is no code
 each-code :
-    map (λ i. effectOf some i 1)
+    map (λ i. effectOf three i 1)
     (instr 0 2 0 0 ∷ instr 1 2 7 0 ∷ instr 2 2 0 1 ∷ instr 3 2 0 1 ∷ instr 4 2 1 0 ∷ instr 5 0 4 0 ∷ instr 5 3 4 0
     ∷ instr 6 2 1 0 ∷ instr 7 1 0 0 ∷ instr 8 2 8 1 ∷ instr 9 8 1 0 ∷ instr 10 2 2 2 ∷ [])
-    ≡ effect some (Replies 9)
+    ≡ effect three (Replies 9)
     ∷ effect (5 ∷ 3 ∷ 7 ∷ 0 ∷ 0 ∷ 0 ∷ 0 ∷ 0 ∷ []) (Goes 1)
     ∷ effect (5 ∷ 3 ∷ 8 ∷ 0 ∷ 0 ∷ 0 ∷ 0 ∷ 0 ∷ []) (Goes 1)
     ∷ effect (5 ∷ 3 ∷ 2 ∷ 0 ∷ 0 ∷ 0 ∷ 0 ∷ 0 ∷ []) (Goes 1)
     ∷ effect (5 ∷ 3 ∷ 1 ∷ 0 ∷ 0 ∷ 0 ∷ 0 ∷ 0 ∷ []) (Goes 1)
-    ∷ effect some (Goes 4)
-    ∷ effect some (Goes 1)
-    ∷ effect some (Asks (oper 1 6 0 0) 2)
-    ∷ effect some (Asks (oper 1 7 0 5) 8)
-    ∷ effect some (Asks (oper 8 8 3 0) 2)
-    ∷ effect some (Asks (oper 8 9 3 5) 8)
-    ∷ effect some (Goes 1)
+    ∷ effect three (Goes 4)
+    ∷ effect three (Goes 1)
+    ∷ effect three (Asks (oper 1 6 0 0) 2)
+    ∷ effect three (Asks (oper 1 7 0 5) 8)
+    ∷ effect three (Asks (oper 8 8 3 0) 2)
+    ∷ effect three (Asks (oper 8 9 3 5) 8)
+    ∷ effect three (Goes 1)
     ∷ []
 unfolding effectAs
 each-code = refl
@@ -141,7 +141,7 @@ short = instr 0 0 0 0 ∷ []
 -- no program; two good ones; a local 8; a wrong last code; an empty program, at its own line; a number out of sequence; a target in program 1
 -- that is its number of instructions
 broken :
-    map rulingOf
+    map row2
     ([]
     ∷ (program 0 short ∷ program 1 short ∷ [])
     ∷ (program 0 (instr 0 8 0 0 ∷ []) ∷ [])
@@ -150,8 +150,7 @@ broken :
     ∷ (program 0 short ∷ program 2 short ∷ [])
     ∷ (program 0 short ∷ program 1 (instr 5 0 2 0 ∷ instr 0 0 0 0 ∷ []) ∷ [])
     ∷ [])
-    ≡ Kept ∷ Kept ∷ Broken 2 ∷ Broken 3 ∷ Broken 3 ∷ Broken 3 ∷ Broken 4 ∷ []
-unfolding programs instructions
+    ≡ none ∷ none ∷ some 2 ∷ some 3 ∷ some 3 ∷ some 3 ∷ some 4 ∷ []
 broken = refl
 
 -- ── the objects ──

@@ -8,11 +8,11 @@ use lib.Dec.{eqb, ltb}
 use lib.ListN.{getD}
 use borrow.Author.Tests.{le-ltb, eqb-true, eq-eqb}
 use Rattle.text.specs.declared.report.Op.{Op}
+use Rattle.ordering.proofs.Basics.{byBool, and-true}
 use Rattle.machine.specs.declared.objects.Cell.the-variants.{Never, Put}
 use Rattle.machine.specs.Logs.{nearest, writes}
 use Rattle.machine.specs.Objects.{isRegister, isPut}
 use Rattle.machine.specs.Index.{bucketOf, walk}
-use Rattle.machine.proofs.Tests.{byBool, first, second}
 
 -- whether a line is a put of a bucket
 abbrev pub putsIn : (bucket : ℕ) → Op → Bool
@@ -35,10 +35,10 @@ module _ (object key : ℕ) (h : 8 ≤ object) (o : Op) where
   hit p s =
       rw (
         le-ltb object 8 h,
-        first (eqb (o .object) object) (eqb (o .key) key) s,
-        second (eqb (o .object) object) (eqb (o .key) key) s,
-        first (eqb (o .kind) 9) (eqb (bucketOf (o .object) (o .key)) (bucketOf object key))
-            (second (not (ltb (o .object) 8)) (eqb (o .kind) 9 && eqb (bucketOf (o .object) (o .key)) (bucketOf object key)) p),
+        and-true (eqb (o .object) object) (eqb (o .key) key) s .0,
+        and-true (eqb (o .object) object) (eqb (o .key) key) s .1,
+        and-true (eqb (o .kind) 9) (eqb (bucketOf (o .object) (o .key)) (bucketOf object key))
+            (and-true (not (ltb (o .object) 8)) (eqb (o .kind) 9 && eqb (bucketOf (o .object) (o .key)) (bucketOf object key)) p .1) .0,
       )
 
   -- another line is none
@@ -54,11 +54,12 @@ module _ (object key : ℕ) (h : 8 ≤ object) (o : Op) where
   bucket-write : writes object key o ≡ true → putsIn (bucketOf object key) o ≡ true
   bucket-write w =
       let v : (eqb (o .object) object && (eqb (o .kind) 9 && eqb (o .key) key)) ≡ true = rw (le-ltb object 8 h) at w in
-      let t = second (eqb (o .object) object) (eqb (o .kind) 9 && eqb (o .key) key) v in
-      let p : o .object ≡ object = eqb-true _ _ (first (eqb (o .object) object) (eqb (o .kind) 9 && eqb (o .key) key) v) in
-      let q : o .key ≡ key = eqb-true _ _ (second (eqb (o .kind) 9) (eqb (o .key) key) t) in
+      let s = and-true (eqb (o .object) object) (eqb (o .kind) 9 && eqb (o .key) key) v in
+      let t = and-true (eqb (o .kind) 9) (eqb (o .key) key) (s .1) in
+      let p : o .object ≡ object = eqb-true _ _ (s .0) in
+      let q : o .key ≡ key = eqb-true _ _ (t .1) in
       let b : bucketOf (o .object) (o .key) ≡ bucketOf object key = λ i. bucketOf (p i) (q i) in
-      rw (le-ltb (o .object) 8 (omega arith), first (eqb (o .kind) 9) (eqb (o .key) key) t, eq-eqb _ _ b)
+      rw (le-ltb (o .object) 8 (omega arith), t .0, eq-eqb _ _ b)
 
   miss-bucket : putsIn (bucketOf object key) o ≡ false → writes object key o ≡ false
   miss-bucket f = byBool (writes object key o) (λ w. cc (bucket-write w)) (λ w. w)

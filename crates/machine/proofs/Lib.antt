@@ -1,8 +1,8 @@
--- Laws and theorems: of tests (Tests), of the scan of the program rules (Scan), of a request that goes on (Steps, Turns), of program tables
+-- Laws and theorems: of the program rules and of rulings (Scan, Rulings), of a request that goes on (Steps, Turns, Locals), of program tables
 -- (Tables), the model's side conditions (Bounds), what a log leaves in the objects (Nearest) and in the arrays that hold them (Chains,
--- Passing), and examples (Cases).
-pub mod Tests
+-- Passing), of two machines that go on in the same way (SameReplays, SameHosts), that no reduction acts (Unreduced), and examples (Cases).
 pub mod Scan
+pub mod Rulings
 pub mod Steps
 pub mod Turns
 pub mod Tables
@@ -11,4 +11,7 @@ pub mod Locals
 pub mod Nearest
 pub mod Chains
 pub mod Passing
+pub mod SameReplays
+pub mod SameHosts
+pub mod Unreduced
 mod Cases

@@ -8,7 +8,8 @@ use lib.ListN.{length, set, length-set}
 use Rattle.text.specs.declared.programs.Instr.{Instr}
 use Rattle.machine.specs.Codes.{Code, reply, constant, add, subtract, less, jump, read, write, get, put, other, codeOf}
 use Rattle.machine.specs.Instructions.{effectAs, effectOf, noLocal}
-use Rattle.machine.specs.Processes.{Advanced, instrAt, follow, go, resumed}
+use Rattle.machine.specs.Processes.{Advanced, instrAt, go, resumed}
+use Rattle.machine.proofs.Steps.{follow}
 use Rattle.machine.specs.declared.instructions.Act.the-variants.{Goes, Asks, Replies}
 use Rattle.machine.specs.declared.instructions.Act.{Act}
 

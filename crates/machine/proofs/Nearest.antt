@@ -8,11 +8,11 @@ use borrow.Author.Tests.{lt-ltb, le-ltb, ltb-true, ltb-false, eqb-true}
 use Rattle.text.specs.declared.report.Entry.{Entry}
 use Rattle.text.specs.declared.report.Op.{Op}
 use Rattle.text.specs.Rows.{firsts}
+use Rattle.ordering.proofs.Basics.{byBool}
 use Rattle.machine.specs.declared.objects.Cell.{Cell}
 use Rattle.machine.specs.declared.objects.Cell.the-variants.{Put}
 use Rattle.machine.specs.Objects.{Content, register, store, atStart, valueOf, reads}
 use Rattle.machine.specs.Logs.{ops, after, afterAll, nearest, writes}
-use Rattle.machine.proofs.Tests.{byBool}
 
 -- one line more
 afterAll-snoc : (cs : ℕ → Content) (ls : List Entry) (l : Entry) → afterAll cs (ls ++ l ∷ []) ≡ after (afterAll cs ls) (l .op)

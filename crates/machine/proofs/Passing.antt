@@ -12,12 +12,12 @@ use borrow.Author.Tests.{lt-ltb, le-ltb, ltb-true, ltb-false, eqb-true, eqb-fals
 use Rattle.text.specs.declared.report.Entry.{Entry}
 use Rattle.text.specs.declared.report.Op.{Op}
 use Rattle.text.specs.Rows.{firsts}
+use Rattle.ordering.proofs.Basics.{byBool}
 use Rattle.machine.specs.declared.objects.Cell.{Cell}
 use Rattle.machine.specs.declared.objects.Cell.the-variants.{Put}
 use Rattle.machine.specs.Objects.{Content, register, reads, apply, valueOf, atStart}
 use Rattle.machine.specs.Logs.{ops, nearest, writes, after, afterAll, answersFrom}
 use Rattle.machine.specs.Index.{bucketOf, walk, registerLeft, stored, Performed, performed, performOf}
-use Rattle.machine.proofs.Tests.{byBool}
 use Rattle.machine.proofs.Nearest.{register-nearest, store-nearest}
 use Rattle.machine.proofs.Chains.{putsIn, lastPut, Chained, lastPut-le, lastPut-put, nearest-last, walk-nearest}
 

@@ -8,7 +8,8 @@ use borrow.Author.Tests.{ltb-true, ltb-false}
 use lib.Dec.{ltb}
 use lib.ListN.{getD, take, length-take, List·getD-eq-default}
 use lib.Seq.{getD-take}
-use Rattle.text.specs.Held.{noInstr, noProgram, trimmed, programAt, Bounded}
+use Rattle.text.specs.Held.{trimmed, programAt, Bounded}
+use Rattle.text.specs.Programs.{noInstr, noProgram}
 use Rattle.text.specs.Rows.{firsts}
 use Rattle.text.specs.declared.programs.Instr.{Instr}
 use Rattle.text.specs.declared.programs.Program.{Program}
@@ -16,10 +17,10 @@ use Rattle.text.proofs.RowLaws.{firsts-at}
 use Rattle.ordering.proofs.Basics.{byBool}
 use Rattle.machine.specs.declared.instructions.Act.{Act}
 use Rattle.machine.specs.declared.instructions.Act.the-variants.{Goes, Asks, Replies}
-use Rattle.machine.specs.Instance.{Process, nextOf, behindAll, codeAt, resumedWith, gone, machine}
+use Rattle.machine.specs.Instance.{Process, codeAt, machineBy, gone, machine}
 use Rattle.machine.specs.Instructions.{effectOf}
-use Rattle.machine.specs.Objects.{Content, apply, logged}
-use Rattle.machine.specs.Processes.{Advanced, firstLocals, instrAt, behind, follow, go}
+use Rattle.machine.specs.Processes.{Advanced, instrAt, behind, go}
+use Rattle.machine.proofs.Steps.{follow}
 
 -- ── a table in an array, and as it was read ──
 module _ (table : List Program) (n : ℕ) where
@@ -55,25 +56,15 @@ unfolding go
 go-same p q h zero l at done = refl
 go-same p q h (suc k) l at done =
     let e = effectOf l (instrAt q at) (at % 64 + 1) in
-    rw (h at)
-    (ap (behind (at % 64))
-    (follow-same (e .act) (e .locals) (at % 64 + 1) (done + 1) _ _ (λ m to. go-same p q h k m to (done + 1))))
+    ap (λ i.
+    let e = effectOf l i (at % 64 + 1) in
+    behind (at % 64 ∷ []) (follow (e .act) (e .locals) (at % 64 + 1) (done + 1) (λ m to. go k p m to (done + 1)))) (h at)
+    ∙ ap (behind (at % 64 ∷ []))
+    (follow-same (e .act) (e .locals) (at % 64 + 1) (done + 1) _ _ (λ m to. go-same p q h k m to (done + 1)))
 
 module _ (limit : ℕ) (t u : List Program) (h : (prog at : ℕ) → instrAt (codeAt t prog) at ≡ instrAt (codeAt u prog) at) where
   pub gone-same : (p : Process) → gone limit t p ≡ gone limit u p
-  gone-same p = ap (behindAll (p .path)) (go-same _ _ (h (p .prog)) (limit - p .done) (p .locals) (p .at) (p .done))
+  gone-same p = ap (behind (p .path)) (go-same _ _ (h (p .prog)) (limit - p .done) (p .locals) (p .at) (p .done))
 
   unfoldable pub machine-same : machine limit t ≡ machine limit u
-  machine-same =
-      λ i. record {
-        Process = Process;
-        Content = Content;
-        start = λ prog a b. record { prog = prog; locals = firstLocals a b; at = 0; done = 0; path = [] };
-        advance = λ p. nextOf (gone-same p i .stop .next);
-        resume = λ p v. resumedWith (p .prog) v (gone-same p i);
-        pathSoFar = λ p. p .prog ∷ p .path;
-        pathAtEnd = λ p. p .prog ∷ gone-same p i .path;
-        apply = apply;
-        logged = logged;
-        logged-apply = λ o c. refl;
-      }
+  machine-same = λ i. machineBy (λ p. gone-same p i)

@@ -10,9 +10,9 @@ use Rattle.machine.specs.declared.instructions.Act.{Act}
 use Rattle.machine.specs.declared.instructions.Act.the-variants.{Goes, Asks, Replies}
 use Rattle.machine.specs.declared.processes.Next.the-variants.{Operation, Reply, Cut}
 use Rattle.machine.specs.Instructions.{Effect, effect, effectOf}
-use Rattle.machine.specs.Processes.{Advanced, advanced, follow, stopAt, instrAt, advanceOf}
-use Rattle.machine.specs.Instance.{Process, behindAll, codeAt, gone}
-use Rattle.machine.proofs.Steps.{one, cut}
+use Rattle.machine.specs.Processes.{Advanced, advanced, behind, stopAt, instrAt, advanceOf}
+use Rattle.machine.specs.Instance.{Process, codeAt, gone}
+use Rattle.machine.proofs.Steps.{follow, one, cut}
 
 module _ (limit : ℕ) (table : List Program) (p : Process) (h : p .done < limit) where
   -- the process's next instruction
@@ -26,10 +26,10 @@ module _ (limit : ℕ) (table : List Program) (p : Process) (h : p .done < limit
   abbrev rest : Act → List ℕ → Advanced
   rest x m = follow x m (p .at % 64 + 1) (p .done + 1) (λ n to. advanceOf limit (codeAt table (p .prog)) n to (p .done + 1))
 
-  next : (m : List ℕ) (x : Act) → does ≡ effect m x → gone limit table p ≡ behindAll marked (rest x m)
+  next : (m : List ℕ) (x : Act) → does ≡ effect m x → gone limit table p ≡ behind marked (rest x m)
   next m x e =
       let r = rest x m in
-      ap (behindAll (p .path)) (one limit (codeAt table (p .prog)) (p .locals) (p .at) (p .done) h m x e)
+      ap (behind (p .path)) (one limit (codeAt table (p .prog)) (p .locals) (p .at) (p .done) h m x e)
       ∙ ap (advanced (r .locals) (r .stop)) (sym (append-snoc (p .path) (p .at % 64) (r .path)))
 
   pub moved : (m : List ℕ) (to : ℕ) → does ≡ effect m (Goes to)
@@ -47,5 +47,5 @@ module _ (limit : ℕ) (table : List Program) (p : Process) (h : p .done < limit
 pub cut-off : (limit : ℕ) (table : List Program) (p : Process) → limit ≤ p .done
     → gone limit table p ≡ advanced (p .locals) (stopAt (p .at) (p .done) Cut) (p .path)
 cut-off limit table p h =
-    ap (behindAll (p .path)) (cut limit (codeAt table (p .prog)) (p .locals) (p .at) (p .done) h)
+    ap (behind (p .path)) (cut limit (codeAt table (p .prog)) (p .locals) (p .at) (p .done) h)
     ∙ ap (advanced (p .locals) (stopAt (p .at) (p .done) Cut)) (append-nil (p .path))

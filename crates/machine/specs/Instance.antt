@@ -1,19 +1,17 @@
 -- The machine of the scope as the model's record, for a table of programs and a limit of instructions.
 use Prim.Native.Nat.{ℕ}
-use mathlib.Core.Bool.{Bool}
 use mathlib.Core.Path.{refl}
-use mathlib.Core.List.{List, [], _∷_, _++_}
-use lib.Dec.{ltb}
-use lib.ListN.{getD, length}
+use mathlib.Core.List.{List, [], _∷_}
+use lib.ListN.{getD}
 use Rattle.text.specs.declared.programs.Instr.{Instr}
 use Rattle.text.specs.declared.programs.Program.{Program}
-use Rattle.text.specs.Held.{noProgram}
+use Rattle.text.specs.Programs.{noProgram}
 use Rattle.model.specs.Machine.{Machine, op, stop}
 use Rattle.model.specs.Machine as model
 use Rattle.machine.specs.declared.processes.Next.{Next}
 use Rattle.machine.specs.declared.processes.Next.the-variants.{Operation, Reply, Cut}
 use Rattle.machine.specs.Instructions.{noLocal}
-use Rattle.machine.specs.Processes.{Advanced, advanced, firstLocals, advanceOf, resumed}
+use Rattle.machine.specs.Processes.{Advanced, behind, firstLocals, limit, advanceOf, resumed}
 use Rattle.machine.specs.Objects.{Content, apply, logged}
 
 -- a request: its program, its locals, its position, how many instructions it has carried out, and their positions
@@ -36,17 +34,9 @@ intoOf (Operation o into) = into
 intoOf (Reply v) = noLocal
 intoOf Cut = noLocal
 
--- positions carried out before
-abbrev pub behindAll : List ℕ → Advanced → Advanced
-behindAll path r = advanced (r .locals) (r .stop) (path ++ r .path)
-
 -- the instructions of a program of the table
 abbrev pub codeAt : List Program → ℕ → List Instr
 codeAt table prog = getD table prog noProgram .code
-
--- the numbers of the programs that there are
-abbrev pub known : List Program → ℕ → Bool
-known table prog = ltb prog (length table)
 
 -- a process of a program that has gone on to an operation, with the answer v
 abbrev pub resumedWith : (prog v : ℕ) → Advanced → Process
@@ -59,22 +49,30 @@ resumedWith prog v r =
       path = r .path;
     }
 
+-- the model's record, where `gone` tells how a process goes on
+abbrev pub machineBy : (Process → Advanced) → Machine
+machineBy gone =
+    record {
+      Process = Process;
+      Content = Content;
+      start = λ prog a b. record { prog = prog; locals = firstLocals a b; at = 0; done = 0; path = [] };
+      advance = λ p. nextOf (gone p .stop .next);
+      resume = λ p v. resumedWith (p .prog) v (gone p);
+      pathSoFar = λ p. p .prog ∷ p .path;
+      pathAtEnd = λ p. p .prog ∷ gone p .path;
+      apply = apply;
+      logged = logged;
+      logged-apply = λ o c. refl;
+    }
+
 module _ (limit : ℕ) (table : List Program) where
   -- the request gone on, with its whole path
   abbrev pub gone : Process → Advanced
-  gone p = behindAll (p .path) (advanceOf limit (codeAt table (p .prog)) (p .locals) (p .at) (p .done))
+  gone p = behind (p .path) (advanceOf limit (codeAt table (p .prog)) (p .locals) (p .at) (p .done))
 
   abbrev pub machine : Machine
-  machine =
-      record {
-        Process = Process;
-        Content = Content;
-        start = λ prog a b. record { prog = prog; locals = firstLocals a b; at = 0; done = 0; path = [] };
-        advance = λ p. nextOf (gone p .stop .next);
-        resume = λ p v. resumedWith (p .prog) v (gone p);
-        pathSoFar = λ p. p .prog ∷ p .path;
-        pathAtEnd = λ p. p .prog ∷ gone p .path;
-        apply = apply;
-        logged = logged;
-        logged-apply = λ o c. refl;
-      }
+  machine = machineBy gone
+
+-- the machine of the scope
+abbrev pub machineOf : List Program → Machine
+machineOf table = machine limit table

@@ -3,6 +3,7 @@ pub mod Codes
 pub mod Instructions
 pub mod Processes
 pub mod Rules
+pub mod Front
 pub mod Objects
 pub mod Logs
 pub mod Index

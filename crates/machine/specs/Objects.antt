@@ -1,4 +1,4 @@
--- The objects: what an operation answers and leaves, and what its log line shows. Only this file knows the kinds of operations.
+-- The objects: what an operation answers and leaves, and what its log line shows. Only this file knows which kinds change an object.
 use Prim.Native.Nat.{ℕ}
 use mathlib.Core.Bool.{Bool, cond}
 use lib.Dec.{eqb, ltb}

@@ -1,12 +1,11 @@
 -- A request as it goes on: up to and including its next operation, or to its reply, or to its cut.
 use Prim.Native.Nat.{ℕ, suc, zero, _+_, _-_, _%_}
-use mathlib.Core.List.{List, [], _∷_}
+use mathlib.Core.List.{List, [], _∷_, _++_}
 use mathlib.Core.Bool.{cond}
 use lib.Dec.{ltb}
 use lib.ListN.{getD, set}
 use Rattle.text.specs.declared.programs.Instr.{Instr}
-use Rattle.text.specs.Held.{noInstr}
-use Rattle.machine.specs.declared.instructions.Act.{Act}
+use Rattle.text.specs.Programs.{noInstr}
 use Rattle.machine.specs.declared.instructions.Act.the-variants.{Goes, Asks, Replies}
 use Rattle.machine.specs.declared.processes.Next.{Next}
 use Rattle.machine.specs.declared.processes.Next.the-variants.{Operation, Reply, Cut}
@@ -38,23 +37,22 @@ advanced l s path = record { locals = l; stop = s; path = path }
 abbrev pub stopAt : (at done : ℕ) → Next → Stop
 stopAt at done x = record { at = at; done = done; next = x }
 
--- the instruction at a position was carried out before
-abbrev pub behind : ℕ → Advanced → Advanced
-behind at r = advanced (r .locals) (r .stop) (at ∷ r .path)
-
--- what follows an instruction that came to x, with the locals l after it: f goes on
-abbrev pub follow : Act → List ℕ → (next done : ℕ) → (List ℕ → ℕ → Advanced) → Advanced
-follow (Goes to) l n done f = f l to
-follow (Asks o into) l n done f = advanced l (stopAt n done (Operation o into)) []
-follow (Replies v) l n done f = advanced l (stopAt n done (Reply v)) []
+-- with the positions that were carried out before
+abbrev pub behind : List ℕ → Advanced → Advanced
+behind path r = advanced (r .locals) (r .stop) (path ++ r .path)
 
 -- a request with k instructions left, which has carried out `done`
 unfoldable pub go : (k : ℕ) → List Instr → List ℕ → (at done : ℕ) → Advanced
 go zero p l at done = advanced l (stopAt at done Cut) []
 go (suc k) p l at done =
-    behind (at % 64)
-    (follow (effectOf l (instrAt p at) (at % 64 + 1) .act) (effectOf l (instrAt p at) (at % 64 + 1) .locals) (at % 64 + 1) (done + 1)
-    (λ m to. go k p m to (done + 1)))
+    let here = at % 64 in
+    let e = effectOf l (instrAt p at) (here + 1) in
+    behind (here ∷ [])
+    (elim (e .act) [
+      | Goes to ↦ go k p (e .locals) to (done + 1)
+      | Asks o into ↦ advanced (e .locals) (stopAt (here + 1) (done + 1) (Operation o into)) []
+      | Replies v ↦ advanced (e .locals) (stopAt (here + 1) (done + 1) (Reply v)) []
+    ])
 
 -- under a limit of instructions in all; it is looked at before an instruction is fetched
 abbrev pub advanceOf : (limit : ℕ) → List Instr → List ℕ → (at done : ℕ) → Advanced

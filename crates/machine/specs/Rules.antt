@@ -1,13 +1,14 @@
 -- The program rules, by a table with a row of fields for each code, and the first line that breaks one.
 use Prim.Native.Nat.{ℕ, suc, zero, _+_}
-use mathlib.Core.List.{List, [], _∷_}
-use mathlib.Core.Bool.{Bool, true, false, cond, _&&_, not}
+use mathlib.Core.List.{List, [], _∷_, _++_}
+use mathlib.Core.Bool.{Bool, true, _&&_, _||_, not}
 use mathlib.Core.Option.{Option, none, some}
 use lib.ListN.{getD, length}
 use lib.Dec.{leb, ltb, eqb}
 use Rattle.text.specs.declared.programs.Instr.{Instr}
 use Rattle.text.specs.declared.programs.Program.{Program}
-use Rattle.text.specs.Held.{noInstr}
+use Rattle.text.specs.Programs.{noInstr}
+use Rattle.model.specs.FirstBad.{firstBad}
 use Rattle.machine.specs.declared.rules.Field.{Field}
 use Rattle.machine.specs.declared.rules.Field.the-variants.{Unused, Constant, Local, Register, Store, Target}
 use Rattle.machine.specs.declared.rules.Fields.{Fields}
@@ -49,47 +50,29 @@ fitFields f n i = fitsAs (f .a) n (i .a) && (fitsAs (f .b) n (i .b) && fitsAs (f
 abbrev pub keepsFields : ℕ → Instr → Bool
 keepsFields n i = ltb (i .code) (length codes) && fitFields (getD rows (i .code) (fields Unused Unused Unused)) n i
 
--- the line of program k: its number is its place, and it has an instruction (a table that was read has 64 at most)
-abbrev pub headKeeps : (number n k : ℕ) → Bool
-headKeeps number n k = eqb number k && (not (eqb n 0) && leb n 64)
+-- A line of the programs text: that of program k, with its number and how many instructions it has, or that of instruction j of n.
+pub data Line : Type 0 where
+  program : (k number n : ℕ) → Line
+  instruction : (j n : ℕ) → Instr → Line
 
--- the line of instruction j of n: the last has code 0
-abbrev pub bodyKeeps : Instr → (j n : ℕ) → Bool
-bodyKeeps i j n = keepsFields n i && cond (ltb (j + 1) n) true (eqb (i .code) 0)
-
--- lines looked at downward: a bad one, or none up to a line
-pub data Scan : Type 0 where
-  bad fine : (line : ℕ) → Scan
-
-abbrev pub onward : Bool → ℕ → Scan → Scan
-onward true line s = s
-onward false line s = bad line
-
-abbrev pub andThen : Scan → (ℕ → Scan) → Scan
-andThen (bad line) f = bad line
-andThen (fine line) f = f line
-
--- k instructions from instruction j of n on, the first of them at a line
-unfoldable pub instructions : (k : ℕ) → List Instr → (n j line : ℕ) → Scan
-instructions zero p n j line = fine line
-instructions (suc k) p n j line = onward (bodyKeeps (getD p j noInstr) j n) line (instructions k p n (j + 1) (line + 1))
-
-abbrev pub bodyOf : Program → ℕ → Scan
-bodyOf p line = instructions (p .n) (p .code) (p .n) 0 line
+-- k instructions of a program, from instruction j on
+abbrev pub instructionLines : (k j : ℕ) → Program → List Line
+instructionLines zero j p = []
+instructionLines (suc k) j p = instruction j (p .n) (getD (p .code) j noInstr) ∷ instructionLines k (suc j) p
 
 -- programs from program k on
-unfoldable pub programs : List Program → (k line : ℕ) → Scan
-programs [] k line = fine line
-programs (p ∷ ps) k line =
-    onward (headKeeps (p .number) (p .n) k) line (andThen (bodyOf p (line + 1)) (λ l. programs ps (k + 1) l))
+abbrev pub linesFrom : (k : ℕ) → List Program → List Line
+linesFrom k [] = []
+linesFrom k (p ∷ ps) = program k (p .number) (p .n) ∷ instructionLines (p .n) 0 p ++ linesFrom (suc k) ps
 
-abbrev pub ruling : Scan → Ruling
-ruling (bad line) = Broken line
-ruling (fine line) = Kept
+-- a program's number is its place, and it has an instruction (a table that was read has 64 at most); the last instruction has code 0
+abbrev pub keepsRules : Line → Bool
+keepsRules (program k number n) = eqb number k && (not (eqb n 0) && leb n 64)
+keepsRules (instruction j n i) = keepsFields n i && (ltb (j + 1) n || eqb (i .code) 0)
 
--- all programs of a text, whose lines count from 1
-abbrev pub rulingOf : List Program → Ruling
-rulingOf ps = ruling (programs ps 0 1)
+-- Row 2: a program rule broken.
+abbrev pub row2 : List Program → Option ℕ
+row2 table = firstBad (λ past line. not (keepsRules line)) 1 [] (linesFrom 0 table)
 
 -- the line that breaks a rule
 abbrev pub brokenLine : Ruling → Option ℕ

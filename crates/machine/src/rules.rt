@@ -6,7 +6,7 @@ ghost use mathlib.Core.Path.{_≡_};
 ghost use Prim.Native.Nat.{_<_, min};
 ghost use Rattle.text.specs.Held.{programAt};
 ghost use Rattle.text.specs.Rows.{firsts};
-ghost use Rattle.machine.specs.Rules.{fitsAs, keepsFields, headKeeps, bodyKeeps, rulingOf};
+ghost use Rattle.machine.specs.Rules.{fitsAs, keepsFields, program, instruction, keepsRules, row2, brokenLine};
 
 // What a field of an instruction names.
 pub enum Field {
@@ -121,7 +121,7 @@ fn keeps(i: Instr, n: u64) -> bool
 
 // Program k has its number and at least one instruction (and no more than there is room for).
 fn head_keeps(number: u64, n: usize, k: usize) -> bool
-    ensures { λ r. ⌜ r ≡ headKeeps number n k ⌝ }
+    ensures { λ r. ⌜ r ≡ keepsRules (program k number n) ⌝ }
 {
     if number == k as u64 {
         if n == 0 { false } else { n <= 64 }
@@ -133,7 +133,7 @@ fn head_keeps(number: u64, n: usize, k: usize) -> bool
 // Instruction j of n keeps the rules; the last has code 0.
 fn body_keeps(i: Instr, j: usize, n: usize) -> bool
     requires { ⌜ j < n ⌝ }
-    ensures { λ r. ⌜ r ≡ bodyKeeps i j n ⌝ }
+    ensures { λ r. ⌜ r ≡ keepsRules (instruction j n i) ⌝ }
 {
     if keeps(i, n as u64) {
         if j + 1 < n { true } else { i.code == 0 }
@@ -144,7 +144,7 @@ fn body_keeps(i: Instr, j: usize, n: usize) -> bool
 
 // Every line of the text is a `program` or a `do`, so the programs' counts give the line.
 pub fn check_rules(ps: Programs) -> Ruling
-    ensures { λ r. ⌜ r ≡ rulingOf (firsts (programAt (ps .table)) (min (ps .n) 16)) ⌝ }
+    ensures { λ r. ⌜ brokenLine r ≡ row2 (firsts (programAt (ps .table)) (min (ps .n) 16)) ⌝ }
 {
     let count = least(ps.n, 16);
     let mut line: usize = 1;

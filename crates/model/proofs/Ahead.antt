@@ -8,9 +8,8 @@ use Rattle.text.specs.declared.report.Entry.{Entry}
 use Rattle.text.specs.declared.report.Op.{Op}
 use Rattle.ordering.specs.Maps.{upd}
 use Rattle.ordering.proofs.Basics.{clash, byBool, same-or, and-true, yes-eqb, eqb-self, upd-same, upd-other}
-use Rattle.model.specs.Batch.{logOf, claims, claimed}
+use Rattle.model.specs.Batch.{logOf, claims, claimed, Node, ln}
 use Rattle.model.specs.Machine.{Machine, shown, applied}
-use Rattle.model.specs.Nodes.{Node, ln}
 use Rattle.model.specs.PlainRun.{State, lineNow, operated}
 use Rattle.model.specs.Replay.{Claim, by, claim}
 use Rattle.model.proofs.Claims.{Unique}

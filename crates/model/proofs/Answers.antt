@@ -12,9 +12,10 @@ use Rattle.ordering.proofs.Basics.{byBool, and-true, yes-eqb, eqb-self}
 use Rattle.ordering.proofs.Lanes.{tally-lanes}
 use Rattle.model.specs.Allowed.{Allowed}
 use Rattle.model.specs.Answers.{answerOf, loggedAnswer}
-use Rattle.model.specs.Batch.{Batch, claims}
+use Rattle.model.specs.Batch.{Batch, claims, Node, ev, ln}
 use Rattle.model.specs.Machine.{op, Machine}
-use Rattle.model.specs.Nodes.{Node, ev, ln, itemOf, lane, nodes}
+use Rattle.model.specs.Nodes.{lane, nodes}
+use Rattle.model.specs.Orders.{itemOf}
 use Rattle.model.specs.PlainRun.{opened, State, initial, arrived, lineNow, operated, replied}
 use Rattle.model.specs.Replay.{Claim, by, claim}
 use Rattle.model.proofs.Ahead.{Ahead, ahead-next}

@@ -15,14 +15,14 @@ use Rattle.text.specs.declared.trace.Event.the-variants.{Request, Response}
 use Rattle.text.specs.declared.trace.Event.{Event}
 use Rattle.ordering.specs.Lists.{All}
 use Rattle.ordering.specs.Maps.{upd}
-use Rattle.ordering.specs.Order.{bump}
+use Rattle.ordering.specs.Merge.{bump}
 use Rattle.model.specs.Audit.{audit}
-use Rattle.model.specs.Batch.{Batch}
+use Rattle.model.specs.Batch.{Batch, ev, ln}
 use Rattle.model.specs.Bounds.{Bounded}
 use Rattle.model.specs.Checks.{Verdict, verdict}
 use Rattle.model.specs.Host.{Result, fault, made, recorded}
 use Rattle.model.specs.Machine.{Machine}
-use Rattle.model.specs.Nodes.{ev, ln, mergeOf}
+use Rattle.model.specs.Nodes.{mergeOf}
 use Rattle.model.specs.Ranges.{FitMove, FitBatch}
 use Rattle.model.proofs.Example.{machine, FitProgram, within, bounded, zero-fit}
 use Rattle.model.proofs.Main.{host-accepted, host-in-range}

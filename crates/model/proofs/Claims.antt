@@ -14,7 +14,7 @@ use Rattle.text.specs.declared.report.Of.{Of}
 use Rattle.ordering.specs.Lists.{All}
 use Rattle.ordering.proofs.Basics.{byBool, byEq, and-true, no-eqb, eqb-yes, eqb-no}
 use Rattle.ordering.proofs.Lists.{all-any}
-use Rattle.model.specs.Audit.{bad7, row7, allClaimed, bad8, row8}
+use Rattle.model.specs.Claims.{bad7, row7, allClaimed, bad8, row8}
 use Rattle.model.specs.Batch.{Batch, named, countOf, claims, claimed}
 use Rattle.model.proofs.Scans.{false-or, not-false, Clean, scan-clean, clean-scan}
 

@@ -7,9 +7,8 @@ use Rattle.ordering.specs.Maps.{upd}
 use Rattle.ordering.proofs.Basics.{same-or, eqb-self, upd-same, upd-other}
 use Rattle.model.specs.Allowed.{Allowed}
 use Rattle.model.specs.Answers.{written}
-use Rattle.model.specs.Batch.{Batch, logOf}
+use Rattle.model.specs.Batch.{Batch, logOf, Node, ln}
 use Rattle.model.specs.Machine.{Machine}
-use Rattle.model.specs.Nodes.{Node, ln}
 use Rattle.model.specs.PlainRun.{State, lineNow, operated}
 use Rattle.model.proofs.Nodes.{linesOf}
 use Rattle.model.proofs.Placed.{place}

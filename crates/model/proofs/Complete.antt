@@ -18,9 +18,9 @@ use Rattle.ordering.proofs.Lanes.{all-lanes}
 use Rattle.ordering.proofs.Lists.{all-append-left, all-unmap, all-mem}
 use Rattle.ordering.proofs.Orders.{order-merge}
 use Rattle.model.specs.Allowed.{Allowed}
-use Rattle.model.specs.Batch.{Batch, countOf, firstOf, claims, claimed}
+use Rattle.model.specs.Batch.{Batch, countOf, firstOf, claims, claimed, Node, ev, ln}
 use Rattle.model.specs.Machine.{Next, op, stop, Machine, applied}
-use Rattle.model.specs.Nodes.{Node, ev, ln, lane, rid, num, nodes}
+use Rattle.model.specs.Nodes.{lane, rid, num, nodes}
 use Rattle.model.specs.PlainRun.{
   Phase,
   absent,

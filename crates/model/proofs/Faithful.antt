@@ -35,7 +35,7 @@ use Rattle.model.specs.PlainRun.{
   operated,
   replied,
   step,
-  andThen,
+  onward,
   run,
   pathOf,
 }
@@ -81,12 +81,12 @@ add-response past (Response q t w ∷ es) r s v o a n m = byBool (eqb q r)
 module _ (M : Machine) where
   open Machine M using (Process, Content, start, advance, resume, pathAtEnd)
 
-  run-append : (xs ys : List Item) (s : State M) → run M (xs ++ ys) s ≡ andThen M (run M xs s) (run M ys)
+  run-append : (xs ys : List Item) (s : State M) → run M (xs ++ ys) s ≡ onward (run M xs s) (run M ys)
   run-append [] ys s = refl
   run-append (x ∷ xs) ys s = at (step M s x) (run-append xs ys)
     where
-      at : (o : Option (State M)) → ((t : State M) → run M (xs ++ ys) t ≡ andThen M (run M xs t) (run M ys)) →
-          andThen M o (run M (xs ++ ys)) ≡ andThen M (andThen M o (run M xs)) (run M ys)
+      at : (o : Option (State M)) → ((t : State M) → run M (xs ++ ys) t ≡ onward (run M xs t) (run M ys)) →
+          onward o (run M (xs ++ ys)) ≡ onward (onward o (run M xs)) (run M ys)
       at none ih = refl
       at (some t) ih = ih t
 

@@ -29,8 +29,8 @@ use Rattle.ordering.specs.Lists.{All, tally, Later}
 use Rattle.ordering.specs.Whole.{keyed, Whole}
 use Rattle.ordering.proofs.Basics.{clash, byBool, byEq, and-true, yes-eqb, eqb-no}
 use Rattle.ordering.proofs.Lists.{mem-all, tally-append}
-use Rattle.model.specs.Batch.{Batch, requested, answered, countOf, claims, claimed}
-use Rattle.model.specs.Nodes.{Node, ev, ln, lane, rid, num, nodes}
+use Rattle.model.specs.Batch.{Batch, requested, answered, countOf, claims, claimed, Node, ev, ln}
+use Rattle.model.specs.Nodes.{lane, rid, num, nodes}
 use Rattle.model.proofs.Claims.{Counted, Unique, Full, Reported, counted-mem}
 use Rattle.model.proofs.Mapped.{later-map}
 use Rattle.model.proofs.Nodes.{nodes-events}

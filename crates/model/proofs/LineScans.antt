@@ -7,7 +7,7 @@ use Prim.Native.Nat.{ℕ, zero, suc, _+_, _-_, _<_, _≤_}
 use native.Mathlib.Numerals.{add-one}
 use native.Mathlib.Omega.{arith}
 use Rattle.text.specs.Rows.{firsts}
-use Rattle.model.specs.Checks.{firstBad}
+use Rattle.model.specs.FirstBad.{firstBad}
 
 module _ {A : Type 0} (f : ℕ → A) where
   -- the lines above line i, latest first

@@ -9,19 +9,21 @@ use Rattle.ordering.specs.FirstFree.{Greedy}
 use Rattle.ordering.specs.Lists.{All}
 use Rattle.model.specs.Allowed.{Allowed}
 use Rattle.model.specs.Answers.{written, answerOf, loggedAnswer}
-use Rattle.model.specs.Audit.{audit, NoneTo8}
-use Rattle.model.specs.Batch.{Batch, logOf}
+use Rattle.model.specs.Audit.{audit}
+use Rattle.model.specs.Claims.{NoneTo8}
+use Rattle.model.specs.Batch.{Batch, logOf, Node}
 use Rattle.model.specs.Bounds.{Within, Bounded}
 use Rattle.model.specs.Checks.{verdict}
 use Rattle.model.specs.Demand.{Demand3}
 use Rattle.model.specs.Host.{made, recorded}
 use Rattle.model.specs.Machine.{Machine}
-use Rattle.model.specs.Nodes.{Node, itemOf, nodes, mergeOf, OrderOf}
+use Rattle.model.specs.Nodes.{nodes, mergeOf}
+use Rattle.model.specs.Orders.{itemOf, OrderOf}
 use Rattle.model.specs.PlainRun.{Item, initial}
 use Rattle.model.specs.Precedes.{Leads, Returns, ReturnsWeakly}
 use Rattle.model.specs.Ranges.{FitMove, FitBatch}
 use Rattle.model.specs.Replay.{claim}
-use Rattle.model.proofs.Audited.{audit-demand, audit-nine}
+use Rattle.model.proofs.Audited.{audit-demand, audit-zero, audit-nine, audit-nine-line}
 use Rattle.model.proofs.Orders.{allowed-orders, same-answers, same-contents, one-printed, printed-allowed}
 use Rattle.model.proofs.Ranges.{recorded-fit}
 use Rattle.model.proofs.Recorded.{recorded-accepted}
@@ -35,6 +37,13 @@ module _ (M : Machine) (opening : ℕ → M .Content) (known : ℕ → Bool) whe
   -- Row 9: no earlier row holds, and a chain of "comes before" returns to its start.
   pub row-9 : (b : Batch) → (audit M opening known b ≡ verdict 9 0) ↔ (NoneTo8 known b × Returns b)
   row-9 = audit-nine M opening known
+
+  -- Both verdicts stand at line 0.
+  pub line-of-0 : (b : Batch) → audit M opening known b .number ≡ 0 → audit M opening known b ≡ verdict 0 0
+  line-of-0 = audit-zero M opening known
+
+  pub line-of-9 : (b : Batch) → audit M opening known b .number ≡ 9 → audit M opening known b ≡ verdict 9 0
+  line-of-9 = audit-nine-line M opening known
 
   -- The same by the weaker relation of source document 001, in which a response comes before each later request only.
   pub row-9-weaker : (b : Batch) → (audit M opening known b ≡ verdict 9 0) ↔ (NoneTo8 known b × ReturnsWeakly b)

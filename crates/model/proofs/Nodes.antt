@@ -9,8 +9,9 @@ use Rattle.text.specs.declared.trace.Event.{Event}
 use Rattle.ordering.specs.Order.{onLane}
 use Rattle.ordering.proofs.Basics.{byBool}
 use Rattle.model.specs.Allowed.{eventsOf}
-use Rattle.model.specs.Batch.{Batch, logOf}
-use Rattle.model.specs.Nodes.{Node, ev, ln, itemOf, lane, nodes}
+use Rattle.model.specs.Batch.{Batch, logOf, Node, ev, ln}
+use Rattle.model.specs.Nodes.{lane, nodes}
+use Rattle.model.specs.Orders.{itemOf}
 
 -- the events of an order, and the lines of one object
 abbrev pub eventsIn : List Node → List Event

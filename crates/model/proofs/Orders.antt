@@ -9,10 +9,11 @@ use Rattle.ordering.specs.FirstFree.{Greedy}
 use Rattle.model.specs.Allowed.{Allowed}
 use Rattle.model.specs.Answers.{written, answerOf, loggedAnswer}
 use Rattle.model.specs.Audit.{audit}
-use Rattle.model.specs.Batch.{Batch, logOf}
+use Rattle.model.specs.Batch.{Batch, logOf, Node}
 use Rattle.model.specs.Checks.{verdict}
 use Rattle.model.specs.Machine.{Machine}
-use Rattle.model.specs.Nodes.{Node, itemOf, nodes, mergeOf, OrderOf}
+use Rattle.model.specs.Nodes.{nodes, mergeOf}
+use Rattle.model.specs.Orders.{itemOf, OrderOf}
 use Rattle.model.specs.PlainRun.{Item, initial}
 use Rattle.model.specs.Precedes.{Leads}
 use Rattle.model.specs.Replay.{claim}

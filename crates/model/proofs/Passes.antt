@@ -8,11 +8,12 @@ use Prim.Native.Nat.{ℕ, suc}
 use Rattle.text.specs.declared.report.Of.{Of}
 use Rattle.ordering.specs.Lists.{All}
 use Rattle.ordering.proofs.Basics.{clash}
-use Rattle.model.specs.Audit.{leftOver, sameReply, bad10, bad11, samePath, bad12, replayChecks, row7, row8, row9}
-use Rattle.model.specs.Batch.{Batch, firstOf}
+use Rattle.model.specs.Audit.{leftOver, sameReply, bad10, bad11, samePath, bad12, replayChecks, row9}
+use Rattle.model.specs.Claims.{row7, row8}
+use Rattle.model.specs.Batch.{Batch, firstOf, Node}
 use Rattle.model.specs.Checks.{breaks}
 use Rattle.model.specs.Machine.{Machine}
-use Rattle.model.specs.Nodes.{Node, mergeOf}
+use Rattle.model.specs.Nodes.{mergeOf}
 use Rattle.model.specs.Replay.{Reply, responseOf, Outcome, differs, ended, outcome}
 use Rattle.model.proofs.Claims.{Reported, rows-reported}
 use Rattle.model.proofs.Equal.{same-reply, reply-same, same-path, path-same}

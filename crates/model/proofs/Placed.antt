@@ -7,16 +7,18 @@ use native.Mathlib.Omega.{arith}
 use Rattle.text.specs.declared.report.Entry.{Entry}
 use Rattle.ordering.specs.Lists.{All, tally}
 use Rattle.ordering.specs.Maps.{upd}
-use Rattle.ordering.specs.Order.{bump, Numbered}
+use Rattle.ordering.specs.Order.{Numbered}
+use Rattle.ordering.specs.Merge.{bump}
+use Rattle.model.specs.Orders.{itemOf, OrderOf}
 use Rattle.ordering.specs.Whole.{keyed}
 use Rattle.ordering.proofs.Basics.{byBool, same-or, eqb-self, upd-same, upd-other}
 use Rattle.ordering.proofs.Lanes.{all-lanes, tally-lanes}
 use Rattle.ordering.proofs.Lists.{all-append, all-map, all-imp, all-any}
 use Rattle.ordering.proofs.Numbers.{bump-same, bump-other, tally-once}
 use Rattle.model.specs.Allowed.{eventsOf, Allowed}
-use Rattle.model.specs.Batch.{Batch, logOf, countOf, claims, claimed}
+use Rattle.model.specs.Batch.{Batch, logOf, countOf, claims, claimed, Node, ev, ln}
 use Rattle.model.specs.Machine.{Machine}
-use Rattle.model.specs.Nodes.{Node, ev, ln, itemOf, lane, rid, num, nodes, OrderOf}
+use Rattle.model.specs.Nodes.{lane, rid, num, nodes}
 use Rattle.model.specs.PlainRun.{Phase, absent, opened, closed, State, initial, answerNow, operationsOf}
 use Rattle.model.specs.Replay.{claim}
 use Rattle.model.proofs.Ahead.{Ahead, foretold-log}

@@ -13,8 +13,8 @@ use Rattle.ordering.specs.Lists.{Neighbours}
 use Rattle.ordering.proofs.Chains.{cycle-map}
 use Rattle.ordering.proofs.Cycles.{merge-cycle}
 use Rattle.ordering.proofs.Lists.{mem-all}
-use Rattle.model.specs.Batch.{Batch, logOf, countOf}
-use Rattle.model.specs.Nodes.{Node, ev, ln, lane, rid, num, nodes, mergeOf}
+use Rattle.model.specs.Batch.{Batch, logOf, countOf, Node, ev, ln}
+use Rattle.model.specs.Nodes.{lane, rid, num, nodes, mergeOf}
 use Rattle.model.specs.Precedes.{Precedes, events, first, then, last, logged, Returns}
 use Rattle.model.proofs.Claims.{Counted, Reported}
 use Rattle.model.proofs.Items.{Source, source, in-log, in-trace, whole}

@@ -8,8 +8,8 @@ use Rattle.ordering.specs.FirstFree.{Greedy}
 use Rattle.ordering.specs.Lists.{Neighbours}
 use Rattle.ordering.proofs.Chains.{chain-map}
 use Rattle.ordering.proofs.FirstFree.{takes-same, only-order}
-use Rattle.model.specs.Batch.{Batch, countOf}
-use Rattle.model.specs.Nodes.{Node, lane, rid, num, nodes, mergeOf}
+use Rattle.model.specs.Batch.{Batch, countOf, Node}
+use Rattle.model.specs.Nodes.{lane, rid, num, nodes, mergeOf}
 use Rattle.model.specs.Precedes.{Precedes, Leads}
 use Rattle.model.proofs.Claims.{Reported}
 use Rattle.model.proofs.Items.{whole}

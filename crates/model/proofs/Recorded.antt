@@ -20,7 +20,7 @@ use Rattle.ordering.proofs.Lists.{all-any}
 use Rattle.model.specs.Audit.{audit}
 use Rattle.model.specs.Batch.{Batch, requested, answered}
 use Rattle.model.specs.Bounds.{Within}
-use Rattle.model.specs.Checks.{verdict}
+use Rattle.model.specs.Checks.{verdict, faultOr}
 use Rattle.model.specs.Demand.{Demand3}
 use Rattle.model.specs.Host.{
   Result,
@@ -45,9 +45,9 @@ use Rattle.model.specs.Host.{
   isOpen,
   bad15,
   row15,
-  batchOf,
+  batchWritten,
   close,
-  write,
+  andThen,
   recorded,
 }
 use Rattle.model.specs.Machine.{Next, op, stop, Machine}
@@ -137,18 +137,18 @@ module _ (M : Machine) (known : ℕ → Bool) (limit : ℕ) where
     pub host : Host M
     pub ran : runFrom M known limit 1 ms (empty M opening) ≡ made host
     pub closed15 : row15 M (host .state) ms ≡ none
-    pub batch : batchOf M objects host ≡ b
+    pub batch : batchWritten M objects host ≡ b
 
   pub recorded-wrote : (objects : ℕ) (opening : ℕ → Content) (ms : List Move) (b : Batch) →
       recorded M known limit objects opening ms ≡ made b → Wrote objects opening ms b
   recorded-wrote objects opening ms b e = at (runFrom M known limit 1 ms (empty M opening)) refl e
     where
       closing : (h : Host M) → runFrom M known limit 1 ms (empty M opening) ≡ made h → (o : Option ℕ) → row15 M (h .state) ms ≡ o →
-          close M objects h o ≡ made b → Wrote objects opening ms b
+          faultOr fault 15 o (made (batchWritten M objects h)) ≡ made b → Wrote objects opening ms b
       closing h d none l c = record { host = h; ran = d; closed15 = l; batch = cc }
       closing h d (some n) l c = clash (cc)
 
-      at : (x : Result (Host M)) → runFrom M known limit 1 ms (empty M opening) ≡ x → write M objects ms x ≡ made b →
+      at : (x : Result (Host M)) → runFrom M known limit 1 ms (empty M opening) ≡ x → andThen x (close M objects ms) ≡ made b →
           Wrote objects opening ms b
       at (fault number line) d c = clash (cc)
       at (made h) d c = closing h d (row15 M (h .state) ms) refl c
@@ -205,7 +205,7 @@ module _ (M : Machine) (known : ℕ → Bool) (limit : ℕ) where
       lines4 = row4-order known (w .host .trace) .1 (f .inOrder, f .programs);
       answered4 = row4-answered (w .host .trace) .1 (all-answered (w .host .trace) (w .host .trace) (λ r a.
           f .responses r ∙ settled (w .host .state .phase r) (sym (f .arrivals r) ∙ a) (none-open r a)));
-      ofs6 = row6-matching (batchOf M objects (w .host)) .1 (ofs-matching M (w .host .state) (w .host .trace) 0);
+      ofs6 = row6-matching (batchWritten M objects (w .host)) .1 (ofs-matching M (w .host .state) (w .host .trace) 0);
       allowed = faithful-allowed M known objects opening (w .host .state) (w .host .trace) f;
     })
       where

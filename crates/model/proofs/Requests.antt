@@ -11,9 +11,9 @@ use Rattle.text.specs.declared.trace.Event.{Event}
 use Rattle.ordering.specs.Lists.{All}
 use Rattle.ordering.proofs.Basics.{clash, byEq, eqb-no, eqb-self}
 use Rattle.ordering.proofs.Lists.{all-mem, mem-all}
-use Rattle.model.specs.Batch.{Batch, requested, answered, countOf}
+use Rattle.model.specs.Batch.{Batch, requested, answered, countOf, ev}
 use Rattle.model.specs.Machine.{Machine}
-use Rattle.model.specs.Nodes.{ev, rid}
+use Rattle.model.specs.Nodes.{rid}
 use Rattle.model.specs.Replay.{said, responseOf, requestOf}
 use Rattle.model.proofs.Trace.{InOrder, Matching, Formed}
 

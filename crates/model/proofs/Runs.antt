@@ -12,9 +12,9 @@ use Rattle.text.specs.declared.trace.Event.{Event}
 use Rattle.ordering.specs.Maps.{upd}
 use Rattle.ordering.proofs.Basics.{clash, byBool, byEq, same-or, and-true, yes-eqb, eqb-self, upd-same, upd-at, upd-other}
 use Rattle.model.specs.Allowed.{eventsOf}
-use Rattle.model.specs.Batch.{requested}
+use Rattle.model.specs.Batch.{requested, Node, ev, ln}
 use Rattle.model.specs.Machine.{Next, op, stop, Machine}
-use Rattle.model.specs.Nodes.{Node, ev, ln, itemOf}
+use Rattle.model.specs.Orders.{itemOf}
 use Rattle.model.specs.PlainRun.{
   Item,
   event,

@@ -1,13 +1,15 @@
 -- A scan that finds nothing, and a list of checks none of which finds a fault.
 use mathlib.Core.Bool.{Bool, true, false, _||_, not}
 use mathlib.Core.List.{List, [], _∷_, _++_}
-use mathlib.Core.Option.{none, some}
+use mathlib.Core.Option.{Option, none, some}
 use mathlib.Core.Path.{_≡_, refl}
 use Prim.Native.Nat.{ℕ, suc}
 use lib.Dec.{eqb}
+use Rattle.text.specs.Text.{Read, readable, unreadable}
 use Rattle.ordering.specs.Lists.{All}
 use Rattle.ordering.proofs.Basics.{clash, byBool, no-eqb}
-use Rattle.model.specs.Checks.{Check, check, firstFault, firstBad}
+use Rattle.model.specs.Checks.{Verdict, verdict, Check, check, faultOr, firstFault, badLine, contents}
+use Rattle.model.specs.FirstBad.{firstBad}
 
 pub false-or : (a b : Bool) → (a || b) ≡ false → (a ≡ false) × (b ≡ false)
 false-or true b e = clash (cc)
@@ -40,6 +42,28 @@ Clear (check k o) = o ≡ none
 abbrev pub NotRow : ℕ → Check → Type 0
 NotRow n (check k o) = eqb k n ≡ false
 
+-- ── one row, and what the rows behind it come to ──
+module _ {A : Type 0} (said : (row line : ℕ) → A) (k : ℕ) (o : Option ℕ) (behind : A) where
+  -- a row that holds is what is said,
+  pub holds : (n : ℕ) → o ≡ some n → said k n ≡ faultOr said k o behind
+  holds n e = rw e refl
+
+  -- and one that does not leaves it to the rows behind
+  pub passes : o ≡ none → behind ≡ faultOr said k o behind
+  passes e = rw e refl
+
+-- where the verdict has another number than the row, the row did not hold
+pub passed : (k : ℕ) (o : Option ℕ) (behind : Verdict) (n : ℕ) → eqb k n ≡ false → faultOr verdict k o behind .number ≡ n →
+    (o ≡ none) × (behind .number ≡ n)
+passed k none behind n d e = (refl, e)
+passed k (some l) behind n d e = absurd (no-eqb d e)
+
+-- a text with no bad line was read
+pub read-fine : {S : Type 0} (empty : S) (x : Read S) → badLine x ≡ none → x ≡ readable (contents empty x)
+read-fine empty (readable x) e = refl
+read-fine empty (unreadable n) e = clash (cc)
+
+-- ── several rows ──
 pub clear-fault : (cs ds : List Check) → All Clear cs → firstFault (cs ++ ds) ≡ firstFault ds
 clear-fault [] ds h = refl
 clear-fault (check k none ∷ cs) ds h = clear-fault cs ds (h .1)

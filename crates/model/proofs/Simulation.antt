@@ -9,11 +9,14 @@ use Rattle.text.specs.declared.report.Op.{Op}
 use Rattle.text.specs.declared.trace.Event.the-variants.{Request, Response}
 use Rattle.ordering.specs.Lists.{All}
 use Rattle.ordering.specs.Maps.{upd}
-use Rattle.ordering.specs.Order.{bump, Numbered}
+use Rattle.ordering.specs.Order.{Numbered}
+use Rattle.ordering.specs.Merge.{bump}
+use Rattle.model.specs.Orders.{itemOf}
+use Rattle.model.specs.Batch.{Node, ev, ln}
 use Rattle.ordering.proofs.Basics.{clash, byBool, byEq, eqb-self, upd-same, upd-other}
 use Rattle.ordering.proofs.Numbers.{bump-same, bump-other, reached}
 use Rattle.model.specs.Machine.{Next, op, stop, Machine, shown}
-use Rattle.model.specs.Nodes.{Node, ev, ln, itemOf, rid, num}
+use Rattle.model.specs.Nodes.{rid, num}
 use Rattle.model.specs.PlainRun.{
   Phase,
   absent,

@@ -15,9 +15,10 @@ use Rattle.ordering.proofs.Lists.{all-append, all-append-right, all-map, all-un
 use Rattle.ordering.proofs.Numbers.{reached, over}
 use Rattle.ordering.proofs.Orders.{merge-order}
 use Rattle.model.specs.Allowed.{Allowed}
-use Rattle.model.specs.Batch.{Batch, countOf, firstOf}
+use Rattle.model.specs.Batch.{Batch, countOf, firstOf, Node, ev, ln}
 use Rattle.model.specs.Machine.{Machine}
-use Rattle.model.specs.Nodes.{Node, ev, ln, itemOf, lane, rid, num, nodes, mergeOf, OrderOf}
+use Rattle.model.specs.Nodes.{lane, rid, num, nodes, mergeOf}
+use Rattle.model.specs.Orders.{itemOf, OrderOf}
 use Rattle.model.specs.PlainRun.{Phase, absent, opened, closed, initial, operationsOf, pathOf}
 use Rattle.model.specs.Replay.{Reply, silent, said, responseOf, Outcome, differs, ended, Claim, claim, outcome}
 use Rattle.model.proofs.Ahead.{foretold-log}

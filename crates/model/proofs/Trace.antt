@@ -10,7 +10,7 @@ use Rattle.text.specs.declared.trace.Event.the-variants.{Request, Response}
 use Rattle.text.specs.declared.trace.Event.{Event}
 use Rattle.ordering.specs.Lists.{All}
 use Rattle.ordering.proofs.Basics.{clash, byEq, eqb-yes}
-use Rattle.model.specs.Audit.{bad4, row4, unanswered, row4Open, row6From, row6}
+use Rattle.model.specs.Requests.{bad4, row4, unanswered, row4Open, row6From, row6}
 use Rattle.model.specs.Batch.{Batch, requested, answered}
 use Rattle.model.proofs.Scans.{false-or, not-false, Clean, scan-clean, clean-scan}
 

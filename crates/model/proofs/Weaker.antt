@@ -10,11 +10,12 @@ use Rattle.text.specs.declared.trace.Event.{Event}
 use Rattle.ordering.specs.Before.{Answered}
 use Rattle.ordering.specs.Lists.{Later}
 use Rattle.ordering.proofs.Weaker.{merge-weaker}
-use Rattle.model.specs.Audit.{audit, NoneTo8}
-use Rattle.model.specs.Batch.{Batch, countOf}
+use Rattle.model.specs.Audit.{audit}
+use Rattle.model.specs.Claims.{NoneTo8}
+use Rattle.model.specs.Batch.{Batch, countOf, Node, ev}
 use Rattle.model.specs.Checks.{verdict}
 use Rattle.model.specs.Machine.{Machine}
-use Rattle.model.specs.Nodes.{Node, ev, lane, rid, num, nodes, mergeOf}
+use Rattle.model.specs.Nodes.{lane, rid, num, nodes, mergeOf}
 use Rattle.model.specs.Precedes.{LaterRequest, laterRequest, ReturnsWeakly}
 use Rattle.model.proofs.Audited.{audit-nine-by}
 use Rattle.model.proofs.Claims.{Reported}

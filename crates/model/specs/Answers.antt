@@ -6,7 +6,7 @@ use Prim.Native.Nat.{ℕ}
 use lib.Dec.{eqb}
 use Rattle.text.specs.declared.report.Entry.{Entry}
 use Rattle.model.specs.Machine.{Next, op, stop, Machine}
-use Rattle.model.specs.PlainRun.{Item, event, operation, State, Phase, absent, opened, closed, answerNow, step}
+use Rattle.model.specs.PlainRun.{Item, event, operation, State, Phase, absent, opened, closed, answerNow, step, onward}
 use Rattle.model.specs.Replay.{Claim, unclaimed, by}
 
 module _ (M : Machine) where
@@ -26,10 +26,6 @@ module _ (M : Machine) where
   phaseAnswer s absent = none
   phaseAnswer s (opened p n) = nextAnswer s (advance p)
   phaseAnswer s (closed w n) = none
-
-  abbrev pub onward : Option (State M) → (State M → Option ℕ) → Option ℕ
-  onward none f = none
-  onward (some s) f = f s
 
   -- the answer that operation k of request r gets in a run
   abbrev pub answerOf : (rid num : ℕ) → List Item → State M → Option ℕ

@@ -3,6 +3,7 @@ use mathlib.Core.Bool.{Bool, false, cond, _&&_, _||_}
 use mathlib.Core.List.{List, [], _∷_}
 use Prim.Native.Nat.{ℕ}
 use lib.Dec.{eqb}
+use Rattle.text.specs.Report.{Report}
 use Rattle.text.specs.declared.report.Entry.{Entry}
 use Rattle.text.specs.declared.report.Of.{Of}
 use Rattle.text.specs.declared.trace.Event.the-variants.{Request, Response}
@@ -12,6 +13,14 @@ pub record Batch : Type 0 where
   pub trace : List Event
   pub ofs : List Of
   pub log : List Entry
+
+abbrev pub batchOf : List Event → Report → Batch
+batchOf trace report = record { trace = trace; ofs = report .ofs; log = report .log }
+
+-- an item of a batch: a trace event, or a log line
+pub data Node : Type 0 where
+  ev : Event → Node
+  ln : Entry → Node
 
 -- the log of one object: its lines, read downward
 abbrev pub logOf : ℕ → List Entry → List Entry

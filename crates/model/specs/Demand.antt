@@ -4,7 +4,7 @@ use mathlib.Core.Option.{none}
 use mathlib.Core.Path.{_≡_}
 use Prim.Native.Nat.{ℕ}
 use Rattle.model.specs.Allowed.{Allowed}
-use Rattle.model.specs.Audit.{row4, row4Open, row6}
+use Rattle.model.specs.Requests.{row4, row4Open, row6}
 use Rattle.model.specs.Batch.{Batch}
 use Rattle.model.specs.Machine.{Machine}
 

@@ -1,7 +1,7 @@
 -- The reference host on parsed schedules: rows 14 and 15, and the batch that it writes.
 use mathlib.Core.Bool.{Bool, true, false, cond}
 use mathlib.Core.List.{List, [], _∷_, _++_}
-use mathlib.Core.Option.{Option, none, some}
+use mathlib.Core.Option.{Option}
 use Prim.Native.Nat.{ℕ, zero, suc}
 use lib.Dec.{ltb}
 use Rattle.text.specs.declared.report.Entry.{Entry}
@@ -11,7 +11,8 @@ use Rattle.text.specs.declared.schedule.Move.{Move}
 use Rattle.text.specs.declared.trace.Event.the-variants.{Request, Response}
 use Rattle.text.specs.declared.trace.Event.{Event}
 use Rattle.model.specs.Batch.{Batch}
-use Rattle.model.specs.Checks.{firstBad}
+use Rattle.model.specs.Checks.{faultOr}
+use Rattle.model.specs.FirstBad.{firstBad}
 use Rattle.model.specs.Machine.{Next, op, stop, Machine}
 use Rattle.model.specs.PlainRun.{State, Phase, absent, opened, closed, initial, arrived, operated, replied, operationsOf}
 
@@ -19,6 +20,11 @@ use Rattle.model.specs.PlainRun.{State, Phase, absent, opened, closed, i
 pub data Result (A : Type 0) : Type 0 where
   fault : (number line : ℕ) → Result A
   made : A → Result A
+
+-- the checks go on with what was made, up to the first fault
+abbrev pub andThen : {A B : Type 0} → Result A → (A → Result B) → Result B
+andThen (fault number line) f = fault number line
+andThen (made x) f = f x
 
 -- the logs of n objects from k on, one behind the other
 abbrev pub logsFrom : (ℕ → List Entry) → (k n : ℕ) → List Entry
@@ -83,13 +89,13 @@ module _ (M : Machine) where
   afterReply h s r status value =
       record { state = s; trace = h .trace ++ (Response r status value ∷ []); operations = h .operations }
 
-  -- known: the programs that there are; limit: the most operations of a batch
-  module _ (known : ℕ → Bool) (limit : ℕ) where
-    -- a turn of a rid not arrived, or an operation above the limit, breaks row 14
+  -- known: the programs that there are; mostOperations: of a batch
+  module _ (known : ℕ → Bool) (mostOperations : ℕ) where
+    -- a turn of a rid not arrived, or an operation above the most, breaks row 14
     abbrev pub commit : Host → Turned → Stepped
     commit h missing = broken
     commit h idle = on h
-    commit h (worked s) = cond (ltb (h .operations) limit) (on (afterOperation h s)) broken
+    commit h (worked s) = cond (ltb (h .operations) mostOperations) (on (afterOperation h s)) broken
     commit h (finished s r status value) = on (afterReply h s r status value)
 
     -- an unknown program breaks row 14
@@ -128,21 +134,17 @@ module _ (M : Machine) where
   ofsFrom phase n (Response r status value ∷ es) = ofsFrom phase n es
 
   -- `log` lines by rising object, within one in order of execution
-  abbrev pub batchOf : (objects : ℕ) → Host → Batch
-  batchOf objects h = record {
+  abbrev pub batchWritten : (objects : ℕ) → Host → Batch
+  batchWritten objects h = record {
     trace = h .trace;
     ofs = ofsFrom (h .state .phase) 0 (h .trace);
     log = logsFrom (h .state .logs) 0 objects;
   }
 
-  abbrev pub close : (objects : ℕ) → Host → Option ℕ → Result Batch
-  close objects h none = made (batchOf objects h)
-  close objects h (some n) = fault 15 n
-
-  abbrev pub write : (objects : ℕ) → List Move → Result Host → Result Batch
-  write objects ms (fault number line) = fault number line
-  write objects ms (made h) = close objects h (row15 (h .state) ms)
+  -- a run to its end is written, unless row 15 holds
+  abbrev pub close : (objects : ℕ) → List Move → Host → Result Batch
+  close objects ms h = faultOr fault 15 (row15 (h .state) ms) (made (batchWritten objects h))
 
   -- the run of a schedule, and the batch that it writes
-  abbrev pub recorded : (known : ℕ → Bool) (limit objects : ℕ) → (ℕ → Content) → List Move → Result Batch
-  recorded known limit objects opening ms = write objects ms (runFrom known limit 1 ms (empty opening))
+  abbrev pub recorded : (known : ℕ → Bool) (mostOperations objects : ℕ) → (ℕ → Content) → List Move → Result Batch
+  recorded known mostOperations objects opening ms = andThen (runFrom known mostOperations 1 ms (empty opening)) (close objects ms)

@@ -3,22 +3,9 @@
 use mathlib.Core.List.{List, _++_, map}
 use Prim.Native.Nat.{ℕ, suc}
 use lib.ListN.{length}
-use Rattle.text.specs.declared.report.Entry.{Entry}
 use Rattle.text.specs.declared.trace.Event.the-variants.{Request, Response}
-use Rattle.text.specs.declared.trace.Event.{Event}
-use Rattle.ordering.specs.Order.{IsOrder, merge}
-use Rattle.model.specs.Batch.{Batch, countOf}
-use Rattle.model.specs.PlainRun.{Item, event, operation}
-
--- a trace event, or a log line
-pub data Node : Type 0 where
-  ev : Event → Node
-  ln : Entry → Node
-
--- the item of an order that it stands for
-abbrev pub itemOf : Node → Item
-itemOf (ev e) = event e
-itemOf (ln l) = operation (l .rid) (l .num)
+use Rattle.ordering.specs.Merge.{merge}
+use Rattle.model.specs.Batch.{Batch, countOf, Node, ev, ln}
 
 abbrev pub lane : Node → ℕ
 lane (ev e) = 0
@@ -42,7 +29,3 @@ nodes b = map ln (b .log) ++ map ev (b .trace)
 -- the order that the merge makes of them, and what it leaves over
 abbrev pub mergeOf : Batch → List Node × List Node
 mergeOf b = merge lane rid (num (countOf (b .ofs))) (length (nodes b)) (λ r. 0) (nodes b)
-
--- an order of all of them, each lane in its sequence and each request by its numbers
-abbrev pub OrderOf : Batch → List Node → Type 0
-OrderOf b order = IsOrder lane rid (num (countOf (b .ofs))) (λ r. 0) (nodes b) order

@@ -16,6 +16,11 @@ pub data Item : Type 0 where
   event : Event → Item
   operation : (rid num : ℕ) → Item
 
+-- from a state on, if there is one
+abbrev pub onward : {A B : Type 0} → Option A → (A → Option B) → Option B
+onward none f = none
+onward (some s) f = f s
+
 module _ (M : Machine) where
   open Machine M using (Process, Content, start, advance, resume, pathSoFar, pathAtEnd, apply)
 
@@ -88,13 +93,9 @@ module _ (M : Machine) where
   step s (event (Response r status value)) = reply s r status value (s .phase r)
   step s (operation r k) = operate s r k (s .phase r)
 
-  abbrev pub andThen : Option State → (State → Option State) → Option State
-  andThen none f = none
-  andThen (some s) f = f s
-
   abbrev pub run : List Item → State → Option State
   run [] s = some s
-  run (x ∷ xs) s = andThen (step s x) (run xs)
+  run (x ∷ xs) s = onward (step s x) (run xs)
 
   -- the operations and the path of a request, as it stands
   abbrev pub operationsOf : Phase → ℕ

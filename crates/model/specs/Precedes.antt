@@ -7,8 +7,7 @@ use Rattle.text.specs.declared.trace.Event.the-variants.{Request, Response}
 use Rattle.text.specs.declared.trace.Event.{Event}
 use Rattle.ordering.specs.Chain.{Chain, Cycle}
 use Rattle.ordering.specs.Lists.{Neighbours, Later}
-use Rattle.model.specs.Batch.{Batch, logOf, countOf}
-use Rattle.model.specs.Nodes.{Node, ev, ln}
+use Rattle.model.specs.Batch.{Batch, Node, ev, ln, logOf, countOf}
 
 pub data Precedes (T : List Event → Event → Event → Type 0) (b : Batch) : Node → Node → Type 0 where
   -- each trace event and the next, where T is `Neighbours`

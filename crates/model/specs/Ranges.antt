@@ -47,10 +47,10 @@ module _ (M : Machine) (B : Bounded M) (R : ℕ → Type 0) where
   FitMove (Turn r) = Unit {0}
 
   -- a batch that was written for the schedule ms
-  pub record FitBatch (limit : ℕ) (ms : List Move) (b : Batch) : Type 0 where
+  pub record FitBatch (mostOperations : ℕ) (ms : List Move) (b : Batch) : Type 0 where
     pub events : All FitEvent (b .trace)
     pub ofs : All (FitOf (requestsIn (b .trace))) (b .ofs)
     pub lines : All FitEntry (b .log)
     pub requests : requestsIn (b .trace) ≡ arrivalsIn ms
     pub responses : responsesIn (b .trace) ≤ arrivalsIn ms
-    pub operations : length (b .log) ≤ limit
+    pub operations : length (b .log) ≤ mostOperations

@@ -17,7 +17,8 @@ use Prim.Native.Nat.{ℕ, zero, suc, _+_, _≤_, _<_}
 use native.Mathlib.Omega.{arith}
 use lib.ListN.{length}
 use Rattle.ordering.specs.Lists.{All, tally, Neighbours, Later}
-use Rattle.ordering.specs.Order.{onLane, IsOrder, stuck, pick, mergeAll}
+use Rattle.ordering.specs.Order.{onLane, IsOrder}
+use Rattle.ordering.specs.Merge.{stuck, pick, mergeAll}
 use Rattle.ordering.specs.Chain.{Chain, one, Cycle}
 use Rattle.ordering.specs.Before.{ComesBefore, events, logged, next}
 use Rattle.ordering.specs.Whole.{keyed, Whole}

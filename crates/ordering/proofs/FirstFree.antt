@@ -21,7 +21,8 @@ use native.Mathlib.Omega.{arith}
 use lib.Dec.{eqb}
 use lib.ListN.{length}
 use Rattle.ordering.specs.Lists.{All, Neighbours}
-use Rattle.ordering.specs.Order.{among, onLane, Pick, stuck, took, keep, pick, merge, mergeAll}
+use Rattle.ordering.specs.Order.{onLane}
+use Rattle.ordering.specs.Merge.{among, Pick, stuck, took, keep, pick, merge, mergeAll}
 use Rattle.ordering.specs.Chain.{Chain, one, more}
 use Rattle.ordering.specs.Before.{ComesBefore, events, logged, next}
 use Rattle.ordering.specs.Whole.{Whole}

@@ -8,7 +8,8 @@ use lib.Dec.{eqb}
 use lib.ListN.{getD, length}
 use native.Mathlib.Omega.{arith}
 use Rattle.ordering.specs.Lists.{All}
-use Rattle.ordering.specs.Order.{among, bump, IsOrder, Pick, stuck, took, keep, pick, merge, mergeAll}
+use Rattle.ordering.specs.Order.{IsOrder}
+use Rattle.ordering.specs.Merge.{among, bump, Pick, stuck, took, keep, pick, merge, mergeAll}
 use Rattle.ordering.specs.Positions.{upFrom, slot, value, mergeOf, counts}
 use Rattle.ordering.proofs.Basics.{byBool, byEq}
 use Rattle.ordering.proofs.Lanes.{all-lanes}

@@ -5,7 +5,8 @@ use mathlib.Core.List.{List, []}
 use Prim.Native.Nat.{ℕ}
 use lib.ListN.{getD, length}
 use native.Mathlib.Omega.{arith}
-use Rattle.ordering.specs.Order.{IsOrder, mergeAll}
+use Rattle.ordering.specs.Order.{IsOrder}
+use Rattle.ordering.specs.Merge.{mergeAll}
 use Rattle.ordering.specs.Chain.{Chain, Cycle}
 use Rattle.ordering.specs.Before.{ComesBefore, WeaklyBefore}
 use Rattle.ordering.specs.Whole.{Whole}

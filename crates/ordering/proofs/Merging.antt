@@ -9,7 +9,8 @@ use lib.Seq.{getD-set-same, getD-set-other, drop-cons, set-append-seam}
 use native.Mathlib.Omega.{arith}
 use Rattle.ordering.specs.declared.Front.{Front}
 use Rattle.ordering.specs.declared.Merged.{Merged}
-use Rattle.ordering.specs.Order.{onLane, merge, pick, took, bump}
+use Rattle.ordering.specs.Order.{onLane}
+use Rattle.ordering.specs.Merge.{merge, pick, took, bump}
 use Rattle.ordering.specs.Positions.{upFrom, slot, value, mergeOf, overFront, counts}
 use Rattle.ordering.specs.Heads.{isNext, leastOf}
 use Rattle.ordering.proofs.Basics.{byEq, eqb-yes, eqb-no, yes-eqb}

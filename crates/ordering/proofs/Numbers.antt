@@ -7,7 +7,8 @@ use Prim.Native.Nat.{ℕ, suc, _+_, _≤_, _<_}
 use lib.Dec.{eqb}
 use native.Mathlib.Omega.{arith}
 use Rattle.ordering.specs.Lists.{All, tally}
-use Rattle.ordering.specs.Order.{bump, Numbered}
+use Rattle.ordering.specs.Order.{Numbered}
+use Rattle.ordering.specs.Merge.{bump}
 use Rattle.ordering.specs.Whole.{keyed}
 use Rattle.ordering.proofs.Basics.{byBool, byEq, eqb-yes, eqb-self, yes-eqb, and-true, upd-at, upd-other, upd-swap}
 use Rattle.ordering.proofs.Lists.{all-imp}

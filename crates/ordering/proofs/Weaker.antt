@@ -5,7 +5,8 @@ use mathlib.Core.List.{List, [], _∷_, _++_, List·Memᴰ, List·Memᴰ·head, 
 use Prim.Native.Nat.{ℕ, suc, _≤_}
 use native.Mathlib.Omega.{arith}
 use Rattle.ordering.specs.Lists.{tally, Neighbours, Later}
-use Rattle.ordering.specs.Order.{onLane, mergeAll}
+use Rattle.ordering.specs.Order.{onLane}
+use Rattle.ordering.specs.Merge.{mergeAll}
 use Rattle.ordering.specs.Chain.{Chain, one, more, Cycle}
 use Rattle.ordering.specs.Before.{events, logged, next, ComesBefore, WeaklyBefore}
 use Rattle.ordering.specs.Whole.{keyed, Whole}

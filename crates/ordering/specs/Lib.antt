@@ -1,6 +1,7 @@
 pub mod Choice
 pub mod Lists
 pub mod Maps
+pub mod Merge
 pub mod Order
 pub mod Chain
 pub mod Before

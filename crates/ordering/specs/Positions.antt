@@ -3,7 +3,7 @@ use mathlib.Core.List.{List, [], _∷_, _++_}
 use Prim.Native.Nat.{ℕ, zero, suc, _%_, min}
 use lib.ListN.{getD, length, drop}
 use Rattle.ordering.specs.declared.Merged.{Merged}
-use Rattle.ordering.specs.Order.{merge}
+use Rattle.ordering.specs.Merge.{merge}
 
 -- the m positions from i on
 abbrev pub upFrom : ℕ → ℕ → List ℕ

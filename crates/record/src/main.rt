@@ -6,14 +6,30 @@ use files::front;
 use files::read_file;
 use files::write_front;
 use host::record_text;
-use lines::Put;
+use lines::written;
+ghost use mathlib.Core.Path.{_≡_};
+ghost use lib.ListN.{length};
+ghost use Rattle.lines.specs.Put.{front};
+ghost use Rattle.host.specs.Printed.{recordedText, mostPrinted};
+ghost use Rattle.host.specs.Recorded.{recordOf};
 
-// What is printed is shorter than the buffer: two lines of at most 55 bytes and two texts of at most 65,535.
+// As much as is ever printed (`mostPrinted`).
+const ROOM: usize = 131125;
+
+// What is printed, to the front of out, and how long it is. It has room whatever the texts are.
+fn fill(programs: &[u8], schedule: &[u8], out: &mut [u8; ROOM]) -> usize
+    requires { ⌜ length (now out) ≡ mostPrinted ⌝ }
+    ensures count { λ r. ⌜ r ≡ length (recordedText (recordOf (now (programs .entry)) (now (schedule .entry)) 65535 65535)) ⌝ }
+    ensures bytes { λ _. ⌜ now (out .exit) ≡ front
+        (recordedText (recordOf (now (programs .entry)) (now (schedule .entry)) 65535 65535)) (now (out .entry)) ⌝ }
+    ensures room { λ _. ⌜ length (now (out .exit)) ≡ length (now (out .entry)) ⌝ }
+{
+    written(record_text(programs, schedule, out))
+}
+
 fn print(programs: &[u8], schedule: &[u8]) {
-    let mut out = [0u8; 131125];
-    let Put::Wrote(n) = record_text(programs, schedule, &mut out) else {
-        return;
-    };
+    let mut out = [0u8; ROOM];
+    let n = fill(programs, schedule, &mut out);
     write_front(&out, n);
 }
 

@@ -20,9 +20,9 @@ use Rattle.model.specs.Batch.{claims}
 use Rattle.model.specs.Machine.{applied}
 use Rattle.model.specs.Replay.{Claim, unclaimed, by, claim, sameOp, right}
 use Rattle.model.proofs.Equal.{same-op}
+use Rattle.machine.specs.Instance.{machineOf}
 use Rattle.machine.specs.Logs.{after, answersFrom}
 use Rattle.machine.specs.Objects.{Content, apply, atStart}
-use Rattle.replay.specs.Judges.{machineOf}
 use Rattle.replay.specs.Promises.{stateAt, contentsAt, answerAt, Answers}
 use Rattle.replay.specs.declared.claims.Answered.the-variants.{Wrong, Right}
 use Rattle.replay.proofs.Searches.{search-hit, search-none}

@@ -12,9 +12,9 @@ use Rattle.text.specs.Scans.{FirstFrom}
 use Rattle.text.specs.declared.report.Entry.{Entry}
 use Rattle.text.specs.declared.report.Of.{Of}
 use Rattle.ordering.proofs.Basics.{byBool}
-use Rattle.model.specs.Audit.{allClaimed, bad8}
+use Rattle.model.specs.Claims.{allClaimed, bad8}
+use Rattle.model.specs.FirstBad.{firstBad}
 use Rattle.model.specs.Batch.{claims, claimed}
-use Rattle.model.specs.Checks.{firstBad}
 use Rattle.model.proofs.LineScans.{Scanned, scan-on, scan-bad}
 use Rattle.replay.proofs.Searches.{search-hit, search-none}
 

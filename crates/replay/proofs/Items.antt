@@ -24,12 +24,12 @@ use Rattle.ordering.proofs.Basics.{clash, byBool, same-or, eqb-yes, yes-eqb}
 use Rattle.ordering.proofs.Items.{Held, merge-items}
 use Rattle.ordering.proofs.Lists.{mem-all}
 use Rattle.model.specs.Audit.{leftOver}
-use Rattle.model.specs.Batch.{Batch, countOf}
+use Rattle.model.specs.Batch.{Batch, countOf, Node, ev, ln}
 use Rattle.model.specs.Checks.{breaks}
-use Rattle.model.specs.Nodes.{Node, ev, ln, lane, rid, num, nodes}
+use Rattle.model.specs.Nodes.{lane, rid, num, nodes}
 use Rattle.model.proofs.Claims.{Counted, counted-mem, row7-lines}
 use Rattle.model.proofs.Requests.{Named, events-named}
-use Rattle.replay.specs.Judges.{batchOf, Ready}
+use Rattle.replay.specs.Judges.{batchHeld, Ready}
 use Rattle.replay.specs.Promises.{nodeAt, laneIn, numberIn, ItemIs, ItemsTo, Returns}
 use Rattle.replay.proofs.Ready.{ready-formed}
 use Rattle.replay.proofs.Searches.{firsts-all, search-hit}
@@ -92,7 +92,7 @@ all-firsts P f (suc n) h = rw (firsts-front f n) (h 0 (omega arith), all-firsts 
 
 module _ (events : List ℕ) (t : ℕ) (ofs : List ℕ) (m : ℕ) (logs : List ℕ) (n : ℕ) where
   abbrev batch : Batch
-  batch = batchOf events t ofs m logs n
+  batch = batchHeld events t ofs m logs n
 
   -- a node, past the last
   abbrev none : Node
@@ -226,7 +226,7 @@ module _ (events : List ℕ) (t : ℕ) (ofs : List ℕ) (m : ℕ) (logs : List �
       r ≡ countsOf front requests numbers out →
       Returns events t ofs m logs n (not (eqb (r .left) 0))
   merge-returns front out e o r c known ready =
-      let b = batchOf events t ofs m logs n in
+      let b = batchHeld events t ofs m logs n in
       let f : ℕ → Node = λ i. getD (nodes b) i (ev (eventAt events 0)) in
       let l : length front ≡ n + t = ap length e ∙ length-take (n + t) lanes ∙ omega (arith, h .lane-room) in
       let k : min (length front) (min (length requests) (min (length numbers) (min (length out) 1152))) ≡ n + t =

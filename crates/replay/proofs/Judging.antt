@@ -10,7 +10,8 @@ use lib.ListN.{getD, set, length, length-set}
 use lib.Seq.{getD-set-same, getD-set-other}
 use native.Mathlib.Nat.{mod-eq-of-lt}
 use native.Mathlib.Omega.{arith}
-use Rattle.text.specs.Held.{eventAt, ofAt, noProgram}
+use Rattle.text.specs.Held.{eventAt, ofAt}
+use Rattle.text.specs.Programs.{noProgram}
 use Rattle.text.specs.Rows.{firsts}
 use Rattle.text.specs.Scans.{FirstFrom}
 use Rattle.text.specs.declared.programs.Program.{Program}
@@ -27,9 +28,9 @@ use Rattle.model.specs.Machine.{Machine}
 use Rattle.model.specs.Replay.{Reply, silent, said, responseOf, requestOf, Outcome, ended, replay, replayFrom, outcome, claim}
 use Rattle.model.proofs.Requests.{ofs-counted, ofs-asked}
 use Rattle.model.proofs.Trace.{KnownIn, AnsweredIn, row4-order, row4-answered}
-use Rattle.machine.specs.Instance.{Process, codeAt}
+use Rattle.machine.specs.Instance.{Process, codeAt, machineOf}
 use Rattle.machine.specs.Objects.{atStart}
-use Rattle.replay.specs.Judges.{batchOf, Ready, machineOf}
+use Rattle.replay.specs.Judges.{batchHeld, Ready}
 use Rattle.replay.specs.Promises.{opens, closes, pathIn, doneIn, outcomeIn, Replays, rowOf, pathAt, arrivalOf, replyOf, JudgesRequests}
 use Rattle.replay.specs.declared.replays.Arrival.{Arrival}
 use Rattle.replay.specs.declared.replays.End.{End}
@@ -86,7 +87,7 @@ answered-opens trace r (Response q s v) h k = clash (cc)
 
 module _ (table : List Program) (events : List ℕ) (t : ℕ) (ofs : List ℕ) (m : ℕ) (logs : List ℕ) (n : ℕ) where
   abbrev batch : Batch
-  batch = batchOf events t ofs m logs n
+  batch = batchHeld events t ofs m logs n
 
   abbrev outcomeAt : ℕ → Outcome
   outcomeAt j = outcome (machineOf table) atStart batch (ofAt ofs j .rid)
@@ -153,7 +154,7 @@ byEnd (Ended s v d) f g = g s v d refl
 
 module _ (table : List Program) (events : List ℕ) (t : ℕ) (ofs : List ℕ) (m : ℕ) (logs : List ℕ) (n : ℕ) where
   abbrev all : Batch
-  all = batchOf events t ofs m logs n
+  all = batchHeld events t ofs m logs n
 
   abbrev outcomes : ℕ → Outcome
   outcomes k = outcomeAt table events t ofs m logs n k

@@ -8,7 +8,8 @@ use lib.ListN.{getD, set, length, length-set}
 use lib.Seq.{getD-set-same, getD-set-other}
 use native.Mathlib.Numerals.{add-one}
 use native.Mathlib.Omega.{arith}
-use Rattle.text.specs.Held.{entryAt, noInstr}
+use Rattle.text.specs.Held.{entryAt}
+use Rattle.text.specs.Programs.{noInstr}
 use Rattle.text.specs.Rows.{firsts}
 use Rattle.text.specs.declared.programs.Instr.{Instr}
 use Rattle.text.specs.declared.programs.Program.{Program}
@@ -20,12 +21,11 @@ use Rattle.model.specs.Replay.{said, Outcome, differs, ended, Answer, wrong, ri
 use Rattle.machine.specs.declared.instructions.Act.{Act}
 use Rattle.machine.specs.declared.instructions.Act.the-variants.{Goes, Asks, Replies}
 use Rattle.machine.specs.declared.processes.Next.the-variants.{Operation, Reply, Cut}
-use Rattle.machine.specs.Instance.{Process, codeAt, gone, nextOf, resumedWith}
+use Rattle.machine.specs.Instance.{Process, codeAt, gone, nextOf, resumedWith, machineOf}
 use Rattle.machine.specs.Instructions.{effect, effectOf}
 use Rattle.machine.specs.Processes.{advanced, stopAt, firstLocals, limit, instrAt, resumed}
 use Rattle.machine.specs.Objects.{atStart}
 use Rattle.machine.proofs.Turns.{moved, asked, replied, cut-off}
-use Rattle.replay.specs.Judges.{machineOf}
 use Rattle.replay.specs.Promises.{Answers, answeredAs, pathIn, replayOf, Replays}
 use Rattle.replay.specs.declared.claims.Answered.{Answered}
 use Rattle.replay.specs.declared.claims.Answered.the-variants.{Wrong, Right}

@@ -1,30 +1,29 @@
 -- The first fault of rows 8 to 12, of a batch that stands in arrays.
 use mathlib.Core.Bool.{Bool, true}
-use mathlib.Core.List.{List, _∷_}
+use mathlib.Core.List.{List}
 use mathlib.Core.Option.{none}
 use mathlib.Core.Path.{_≡_}
 use Prim.Native.Nat.{ℕ, _≤_, _<_, min}
 use Rattle.text.specs.Held.{eventAt, ofAt, entryAt}
 use Rattle.text.specs.Rows.{firsts}
-use Rattle.text.specs.declared.programs.Program.{Program}
 use Rattle.text.specs.declared.programs.Programs.{Programs}
 use Rattle.ordering.specs.Lists.{All}
-use Rattle.model.specs.Audit.{row4, row4Open, row6, row7, row8, row9, replayChecks}
+use Rattle.model.specs.Audit.{from8}
+use Rattle.model.specs.Requests.{row4, row4Open, row6}
+use Rattle.model.specs.Claims.{row7}
 use Rattle.model.specs.Batch.{Batch}
-use Rattle.model.specs.Checks.{Check, check, verdict, firstFault}
-use Rattle.model.specs.Machine.{Machine}
-use Rattle.machine.specs.Instance.{machine}
+use Rattle.model.specs.Checks.{verdict, firstFault}
+use Rattle.machine.specs.Instance.{machineOf}
 use Rattle.machine.specs.Objects.{atStart}
-use Rattle.machine.specs.Processes.{limit}
 use Rattle.replay.specs.declared.Fault.{Fault}
 
 -- the batch of the first lines of each kind
-abbrev pub batchOf : (events : List ℕ) (t : ℕ) (ofs : List ℕ) (m : ℕ) (logs : List ℕ) (n : ℕ) → Batch
-batchOf events t ofs m logs n = record { trace = firsts (eventAt events) t; ofs = firsts (ofAt ofs) m; log = firsts (entryAt logs) n }
+abbrev pub batchHeld : (events : List ℕ) (t : ℕ) (ofs : List ℕ) (m : ℕ) (logs : List ℕ) (n : ℕ) → Batch
+batchHeld events t ofs m logs n = record { trace = firsts (eventAt events) t; ofs = firsts (ofAt ofs) m; log = firsts (entryAt logs) n }
 
 -- as many lines as are said, and no more than there is room for
 abbrev pub batchIn : (events : List ℕ) (t : ℕ) (ofs : List ℕ) (m : ℕ) (logs : List ℕ) (n : ℕ) → Batch
-batchIn events t ofs m logs n = batchOf events (min t 128) ofs (min m 64) logs (min n 1024)
+batchIn events t ofs m logs n = batchHeld events (min t 128) ofs (min m 64) logs (min n 1024)
 
 -- What is known of a batch when row 8 is looked at: no row from 4 to 7 holds, there are at most 16 programs, and objects and counts are in
 -- the range of a readable report.
@@ -34,15 +33,7 @@ pub record Ready (known : ℕ → Bool) (b : Batch) : Type 0 where
   pub objects : All (λ l. l .op .object < 16) (b .log)
   pub counts : All (λ x. x .count ≤ 256) (b .ofs)
 
--- the machine of the programs
-abbrev pub machineOf : List Program → Machine
-machineOf table = machine limit table
-
--- rows 8 to 12 in their order
-abbrev pub checks : List Program → Batch → List Check
-checks table b = check 8 (row8 b) ∷ check 9 (row9 b) ∷ replayChecks (machineOf table) atStart b 1 (b .ofs)
-
 -- The fault r is the first of rows 8 to 12. What r is of a batch that is not ready is left free.
 abbrev pub Judges : Programs → (events : List ℕ) (t : ℕ) (ofs : List ℕ) (m : ℕ) (logs : List ℕ) (n : ℕ) → Fault → Type 0
 Judges ps events t ofs m logs n r = (known : ℕ → Bool) → Ready known (batchIn events t ofs m logs n) →
-    verdict (r .row) (r .line) ≡ firstFault (checks (ps .table) (batchIn events t ofs m logs n))
+    verdict (r .row) (r .line) ≡ firstFault (from8 (machineOf (ps .table)) atStart (batchIn events t ofs m logs n))

@@ -16,12 +16,13 @@ use Rattle.text.specs.declared.trace.Event.the-variants.{Request, Response}
 use Rattle.text.specs.declared.trace.Event.{Event}
 use Rattle.model.specs.Audit.{bad10, bad11, bad12, replayChecks, row9}
 use Rattle.model.specs.Checks.{verdict, firstFault, breaks}
-use Rattle.model.specs.Nodes.{Node, ev, ln, rid}
+use Rattle.model.specs.Nodes.{rid}
+use Rattle.model.specs.Batch.{Node, ev, ln}
 use Rattle.model.specs.Replay.{Reply, said, Outcome, differs, ended, Answer, wrong, right, claim, compare, replay}
-use Rattle.machine.specs.Instance.{Process, codeAt}
+use Rattle.machine.specs.Instance.{Process, codeAt, machineOf}
 use Rattle.machine.specs.Logs.{after}
 use Rattle.machine.specs.Objects.{Content, apply, atStart}
-use Rattle.replay.specs.Judges.{batchOf, Ready, machineOf}
+use Rattle.replay.specs.Judges.{batchHeld, Ready}
 use Rattle.replay.specs.declared.Fault.{Fault}
 use Rattle.replay.specs.declared.claims.Answered.{Answered}
 use Rattle.replay.specs.declared.replays.Arrival.{Arrival}
@@ -140,9 +141,9 @@ replyOf (Response r status value) = record { status = status; value = value }
 
 -- the fault r is the first of rows 10 to 12
 abbrev pub JudgesRequests : List Program → (events : List ℕ) (t : ℕ) (ofs : List ℕ) (m : ℕ) (logs : List ℕ) (n : ℕ) → Fault → Type 0
-JudgesRequests table events t ofs m logs n r = (known : ℕ → Bool) → Ready known (batchOf events t ofs m logs n) →
+JudgesRequests table events t ofs m logs n r = (known : ℕ → Bool) → Ready known (batchHeld events t ofs m logs n) →
     verdict (r .row) (r .line)
-    ≡ firstFault (replayChecks (machineOf table) atStart (batchOf events t ofs m logs n) 1 (batchOf events t ofs m logs n .ofs))
+    ≡ firstFault (replayChecks (machineOf table) atStart (batchHeld events t ofs m logs n) 1 (batchHeld events t ofs m logs n .ofs))
 
 -- ── items ──
 -- item i of a batch with n log lines
@@ -173,5 +174,5 @@ pub record ItemsTo (events ofs : List ℕ) (m : ℕ) (logs : List ℕ) (n i : �
 
 -- row 9, of a batch that is ready
 abbrev pub Returns : (events : List ℕ) (t : ℕ) (ofs : List ℕ) (m : ℕ) (logs : List ℕ) (n : ℕ) → Bool → Type 0
-Returns events t ofs m logs n r = (known : ℕ → Bool) → Ready known (batchOf events t ofs m logs n) →
-    breaks r 0 ≡ row9 (batchOf events t ofs m logs n)
+Returns events t ofs m logs n r = (known : ℕ → Bool) → Ready known (batchHeld events t ofs m logs n) →
+    breaks r 0 ≡ row9 (batchHeld events t ofs m logs n)

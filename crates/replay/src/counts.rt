@@ -7,9 +7,9 @@ ghost use mathlib.Core.Path.{_≡_};
 ghost use Prim.Native.Nat.{_≤_};
 ghost use Rattle.text.specs.Held.{ofAt, entryAt};
 ghost use Rattle.text.specs.Rows.{firsts};
-ghost use Rattle.model.specs.Audit.{bad8};
+ghost use Rattle.model.specs.Claims.{bad8};
+ghost use Rattle.model.specs.FirstBad.{firstBad};
 ghost use Rattle.model.specs.Batch.{claimed};
-ghost use Rattle.model.specs.Checks.{firstBad};
 ghost use Rattle.machine.specs.Rules.{brokenLine};
 ghost use Rattle.replay.specs.Promises.{Linked};
 

@@ -27,7 +27,7 @@ fn is_response(e: Event, rid: u64) -> bool
 }
 
 // The `request` line of a rid.
-pub fn request_at(events: &[u64; 640], t: usize, rid: u64) -> usize
+pub(crate) fn request_at(events: &[u64; 640], t: usize, rid: u64) -> usize
     ensures { λ r. ⌜ FirstFrom (λ i. opens rid (eventAt (now (events .entry)) i)) 0 t r ⌝ }
 {
     let mut i: usize = 0;
@@ -41,7 +41,7 @@ pub fn request_at(events: &[u64; 640], t: usize, rid: u64) -> usize
 }
 
 // The `response` line of a rid.
-pub fn response_at(events: &[u64; 640], t: usize, rid: u64) -> usize
+pub(crate) fn response_at(events: &[u64; 640], t: usize, rid: u64) -> usize
     ensures { λ r. ⌜ FirstFrom (λ i. closes rid (eventAt (now (events .entry)) i)) 0 t r ⌝ }
 {
     let mut i: usize = 0;
@@ -55,7 +55,7 @@ pub fn response_at(events: &[u64; 640], t: usize, rid: u64) -> usize
 }
 
 // The first `of` line of the group that line k has.
-pub fn first_of_group(ofs: &[u64; 192], m: usize, k: usize) -> usize
+pub(crate) fn first_of_group(ofs: &[u64; 192], m: usize, k: usize) -> usize
     ensures { λ r. ⌜ FirstFrom (λ i. eqb (ofAt (now (ofs .entry)) i .group) (ofAt (now (ofs .entry)) k .group)) 0 m r ⌝ }
 {
     let own = of_at(ofs, k);

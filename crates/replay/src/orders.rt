@@ -10,7 +10,7 @@ ghost use mathlib.Core.Path.{_≡_};
 ghost use Prim.Native.Nat.{_≤_, _<_, _+_};
 ghost use lib.ListN.{length};
 ghost use Rattle.text.specs.Slots.{Slots};
-ghost use Rattle.model.specs.Nodes.{ev, ln};
+ghost use Rattle.model.specs.Batch.{ev, ln};
 ghost use Rattle.replay.specs.Promises.{ItemIs, nodeAt, ItemsTo, Returns};
 
 // An item's lane (0 the trace, 1 + object), the slot of its request, and its number there.

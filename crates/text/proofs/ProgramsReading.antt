@@ -14,10 +14,10 @@ use Rattle.lines.specs.Place.{cells}
 use Rattle.lines.proofs.Prefix.{unbroken}
 use Rattle.text.specs.Text.{readable, unreadable, readText}
 use Rattle.text.specs.Formats.{programLine, doLine}
-use Rattle.text.specs.Programs.{instrFrom, begun, withInstr, inFrontOf, addProgram, addDo, programKinds, readPrograms}
+use Rattle.text.specs.Programs.{noInstr, noProgram, instrFrom, begun, withInstr, inFrontOf, addProgram, addDo, programKinds, readPrograms}
 use Rattle.text.specs.Rows.{firsts}
-use Rattle.text.specs.Held.{noInstr, noProgram, trimmed, programAt, programsIn, Bounded, ProgramsIs, tableIn}
-use Rattle.text.specs.Steps.{eitherAt, toldIn, unreadablePrograms}
+use Rattle.text.specs.Held.{trimmed, programAt, programsIn, Bounded, ProgramsIs, tableIn, unreadablePrograms}
+use Rattle.text.specs.Steps.{eitherAt, toldIn}
 use Rattle.text.specs.declared.kinds.Line.{Line}
 use Rattle.text.specs.declared.kinds.Line.the-variants.{First, Second, Neither}
 use Rattle.text.specs.declared.programs.Instr.{Instr}
@@ -36,7 +36,7 @@ use Rattle.text.proofs.Reading.{
   reading-refused,
   reading-taken,
 }
-use Rattle.text.proofs.Alternatives.{is-first, is-second, is-neither}
+use Rattle.text.proofs.Alternatives.{clash, is-first, is-second, is-neither}
 use Rattle.text.proofs.RowLaws.{firsts-length, firsts-same}
 
 -- ── an instruction joins the last program ──
@@ -128,6 +128,8 @@ refused s r line e h = subst (ProgramsIs s) (sym e) unread
     unread =
         record {
           read = h;
+          lineless = λ e. clash (cc);
+          unread = λ e. refl;
           few = omega arith;
           bounded = λ (i : ℕ). λ (j : i < 0). absurd (omega (arith, j));
           room = refl;
@@ -157,6 +159,8 @@ module _ {s : List ℕ} {table : List Program} {number : ℕ} {code : List Instr
       let p = program number n code in
       record {
         read = ap readable (rw d (stored table p (r .room) m (r .few))) ∙ reading-done programKinds [] s (r .reading) h;
+        lineless = λ e. refl;
+        unread = λ e. clash (cc);
         few = r .few;
         bounded = rw d (bounded-stored table p (r .room) m (r .few) (r .earlier) (r .current));
         room = ap length d ∙ length-set table ((m + 15) % 16) p ∙ r .room;

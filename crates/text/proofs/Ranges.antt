@@ -11,7 +11,8 @@ use lib.ListN.{length, getD}
 use Rattle.lines.specs.Line.{Range, InRanges, any, lineOf}
 use Rattle.lines.specs.Parts.{parts}
 use Rattle.lines.proofs.LineTrip.{line-range}
-use Rattle.text.specs.Text.{Read, readable, unreadable, Kind, within, All, addLine, readLines, readText}
+use Rattle.text.specs.Text.{Read, readable, unreadable, Kind, within, addLine, readLines, readText}
+use Rattle.text.specs.Written.{All}
 use Rattle.text.proofs.Alternatives.{clash}
 
 -- ── a fact that each kind of line keeps is kept by a whole text ──

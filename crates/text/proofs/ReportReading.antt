@@ -90,16 +90,16 @@ empty = record { ofs = []; log = [] }
 
 pub record Held (s a b : List ℕ) (m n at : ℕ) : Type 0 where
   pub reading : Reading reportKinds empty s (held a b m n) (m + n + 1) at
-  pub room : length a ≡ 192
-  pub roomy : length b ≡ 6144
-  pub few : m ≤ 64
-  pub fewer : n ≤ 1024
+  pub roomOfs : length a ≡ 192
+  pub roomEntries : length b ≡ 6144
+  pub fewOfs : m ≤ 64
+  pub fewEntries : n ≤ 1024
 
 -- what the reader answers
 refused : (s a b : List ℕ) (line : ℕ) → length a ≡ 192 → length b ≡ 6144 → unreadable line ≡ readText reportKinds empty s →
     ReportIs s (BadLine line) a b
 unfolding reportIn readReport
-refused s a b line l k h = record { read = h; few = omega arith; fewer = omega arith; room = l; roomy = k }
+refused s a b line l k h = record { read = h; fewOfs = omega arith; fewEntries = omega arith; roomOfs = l; roomEntries = k }
 
 pub held-long : (s a b : List ℕ) → length a ≡ 192 → length b ≡ 6144 → 65535 < length s → ReportIs s (BadLine 0) a b
 held-long s a b l k h = refused s a b 0 l k (reading-long reportKinds empty s h)
@@ -107,7 +107,7 @@ held-long s a b l k h = refused s a b 0 l k (reading-long reportKinds empty s h)
 pub held-start : (s a b : List ℕ) → length a ≡ 192 → length b ≡ 6144 → length s ≤ 65535 → Held s a b 0 0 0
 unfolding firsts
 held-start s a b l k h =
-    record { reading = reading-start reportKinds empty s h; room = l; roomy = k; few = omega arith; fewer = omega arith }
+    record { reading = reading-start reportKinds empty s h; roomOfs = l; roomEntries = k; fewOfs = omega arith; fewEntries = omega arith }
 
 -- the first n of a table are none where n is 0
 none-yet : {A : Type 0} (f : ℕ → A) (n : ℕ) → n ≤ 0 → firsts f n ≡ []
@@ -134,14 +134,14 @@ module _ {s a b : List ℕ} {m n at : ℕ} (r : Held s a b m n at) where
   held-done h =
       record {
         read = reading-done reportKinds empty s (r .reading) h;
-        few = r .few;
-        fewer = r .fewer;
-        room = r .room;
-        roomy = r .roomy;
+        fewOfs = r .fewOfs;
+        fewEntries = r .fewEntries;
+        roomOfs = r .roomOfs;
+        roomEntries = r .roomEntries;
       }
 
   refuse : unreadable (m + n + 1) ≡ readText reportKinds empty s → ReportIs s (BadLine (m + n + 1)) a b
-  refuse h = refused s a b (m + n + 1) (r .room) (r .roomy) h
+  refuse h = refused s a b (m + n + 1) (r .roomOfs) (r .roomEntries) h
 
   module _ (h : at < length s) (v : List ℕ) (l : Line) (t : toldIn l 3 6 v ≡ eitherAt ofLine logLine s at) where
     pub held-neither : l ≡ Neither → ReportIs s (BadLine (m + n + 1)) a b
@@ -175,16 +175,16 @@ module _ {s a b : List ℕ} {m n at : ℕ} (r : Held s a b m n at) where
         unfolding addOf
         of-on g k a′ d =
             let j : m + 1 + n ≡ m + n + 1 = omega arith in
-            let w : firsts (ofAt a′) (m + 1) ≡ firsts (ofAt a) m ++ ofFrom (cells 3 v) ∷ [] = rw d (ofs-more a m v (r .room) k) in
+            let w : firsts (ofAt a′) (m + 1) ≡ firsts (ofAt a) m ++ ofFrom (cells 3 v) ∷ [] = rw d (ofs-more a m v (r .roomOfs) k) in
             let y : addOf (held a b m n) (cells 3 v) ≡ some (record { ofs = firsts (ofAt a) m ++ ofFrom (cells 3 v) ∷ []; log = [] }) =
             rw (no-log, addOf) (within-yes (length (firsts (ofAt a) m)) 64 _ (omega (arith, k, firsts-length (ofAt a) m))) in
             let x = reading-taken reportKinds empty s (r .reading) h e _ of-adds g _ y in
             record {
               reading = rw (w, j, no-log) x;
-              room = ap length d ∙ row-room 3 a m (cells 3 v) refl (omega (arith, r .room, k)) ∙ r .room;
-              roomy = r .roomy;
-              few = omega (arith, k);
-              fewer = r .fewer;
+              roomOfs = ap length d ∙ row-room 3 a m (cells 3 v) refl (omega (arith, r .roomOfs, k)) ∙ r .roomOfs;
+              roomEntries = r .roomEntries;
+              fewOfs = omega (arith, k);
+              fewEntries = r .fewEntries;
             }
 
     module _ (e : ℕ) (i : l ≡ Second e) where
@@ -205,13 +205,13 @@ module _ {s a b : List ℕ} {m n at : ℕ} (r : Held s a b m n at) where
       unfolding addLog
       log-on g k b′ d =
           let j : m + (n + 1) ≡ m + n + 1 = omega arith in
-          let w : firsts (entryAt b′) (n + 1) ≡ firsts (entryAt b) n ++ entryFrom (cells 6 v) ∷ [] = rw d (log-more b n v (r .roomy) k) in
+          let w : firsts (entryAt b′) (n + 1) ≡ firsts (entryAt b) n ++ entryFrom (cells 6 v) ∷ [] = rw d (log-more b n v (r .roomEntries) k) in
           let x = reading-taken reportKinds empty s (r .reading) h e _ log-adds g _
           (within-yes (length (firsts (entryAt b) n)) 1024 _ (omega (arith, k, firsts-length (entryAt b) n))) in
           record {
             reading = rw (w, j) x;
-            room = r .room;
-            roomy = ap length d ∙ row-room 6 b n (cells 6 v) refl (omega (arith, r .roomy, k)) ∙ r .roomy;
-            few = r .few;
-            fewer = omega (arith, k);
+            roomOfs = r .roomOfs;
+            roomEntries = ap length d ∙ row-room 6 b n (cells 6 v) refl (omega (arith, r .roomEntries, k)) ∙ r .roomEntries;
+            fewOfs = r .fewOfs;
+            fewEntries = omega (arith, k);
           }

@@ -15,10 +15,11 @@ use Rattle.lines.specs.LineText.{lineText}
 use Rattle.lines.proofs.Parts.{first-part}
 use Rattle.lines.proofs.Prefix.{unbroken}
 use Rattle.lines.proofs.LineTrip.{joined, parts-glue, line-back, line-not, line-free, line-joined, line-bound}
-use Rattle.text.specs.Text.{readable, Kind, count, All, linesText, addLine, readLines, readText}
+use Rattle.text.specs.Text.{readable, Kind, count, addLine, readLines, readText}
+use Rattle.text.specs.Written.{All, linesText, EventIn, eventText, traceText, ofNumbers, entryNumbers, OfIn, EntryIn, ofText, entryText, reportText}
 use Rattle.text.specs.Formats.{requestLine, responseLine, ofLine, logLine}
-use Rattle.text.specs.Trace.{isRequest, isResponse, addRequest, addResponse, traceKinds, readTrace, EventIn, eventText, traceText}
-use Rattle.text.specs.Report.{Report, ofFrom, addOf, addLog, reportKinds, readReport, ofNumbers, entryNumbers, OfIn, EntryIn, ofText, entryText, reportText}
+use Rattle.text.specs.Trace.{isRequest, isResponse, addRequest, addResponse, traceKinds, readTrace}
+use Rattle.text.specs.Report.{Report, ofFrom, addOf, addLog, reportKinds, readReport}
 use Rattle.text.specs.declared.trace.Event.{Event}
 use Rattle.text.specs.declared.trace.Event.the-variants.{Request, Response}
 use Rattle.text.specs.declared.report.Of.{Of}

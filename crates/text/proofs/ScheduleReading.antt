@@ -130,10 +130,10 @@ module _ (moves arrivals : List ℕ) (m n : ℕ) (codes : Codes moves m n) (l : 
 
 pub record Held (s moves arrivals : List ℕ) (m n at : ℕ) : Type 0 where
   pub reading : Reading scheduleKinds [] s (firsts (moveAt moves arrivals) n) (n + 1) at
-  pub room : length moves ≡ 9362
-  pub roomy : length arrivals ≡ 256
+  pub roomMoves : length moves ≡ 9362
+  pub roomArrivals : length arrivals ≡ 256
   pub comes : count isArrive (firsts (moveAt moves arrivals) n) ≡ m
-  pub few : m ≤ 64
+  pub fewArrivals : m ≤ 64
   pub codes : Codes moves m n
   -- a line takes seven bytes at least
   pub bytes : 7 * n ≤ at
@@ -141,7 +141,7 @@ pub record Held (s moves arrivals : List ℕ) (m n at : ℕ) : Type 0 where
 refused : (s moves arrivals : List ℕ) (line : ℕ) → length moves ≡ 9362 → length arrivals ≡ 256 →
     unreadable line ≡ readText scheduleKinds [] s → ScheduleIs s (Unreadable line) moves arrivals
 unfolding readIn readSchedule
-refused s moves arrivals line l k h = record { read = h; few = omega arith; room = l; roomy = k }
+refused s moves arrivals line l k h = record { read = h; fewMoves = omega arith; roomMoves = l; roomArrivals = k }
 
 pub held-long : (s moves arrivals : List ℕ) → length moves ≡ 9362 → length arrivals ≡ 256 → 65535 < length s →
     ScheduleIs s (Unreadable 0) moves arrivals
@@ -153,10 +153,10 @@ unfolding firsts count
 held-start s moves arrivals l k h =
     record {
       reading = reading-start scheduleKinds [] s h;
-      room = l;
-      roomy = k;
+      roomMoves = l;
+      roomArrivals = k;
       comes = refl;
-      few = omega arith;
+      fewArrivals = omega arith;
       codes = λ (i : ℕ). λ (j : i < 0). absurd (omega (arith, j));
       bytes = omega arith;
     }
@@ -167,13 +167,13 @@ module _ {s moves arrivals : List ℕ} {m n at : ℕ} (r : Held s moves arrivals
   held-done h =
       record {
         read = reading-done scheduleKinds [] s (r .reading) h;
-        few = omega (arith, r .bytes, r .reading .inside, r .reading .short);
-        room = r .room;
-        roomy = r .roomy;
+        fewMoves = omega (arith, r .bytes, r .reading .inside, r .reading .short);
+        roomMoves = r .roomMoves;
+        roomArrivals = r .roomArrivals;
       }
 
   refuse : unreadable (n + 1) ≡ readText scheduleKinds [] s → ScheduleIs s (Unreadable (n + 1)) moves arrivals
-  refuse h = refused s moves arrivals (n + 1) (r .room) (r .roomy) h
+  refuse h = refused s moves arrivals (n + 1) (r .roomMoves) (r .roomArrivals) h
 
   module _ (h : at < length s) (v : List ℕ) (l : Line) (t : toldIn l 4 1 v ≡ eitherAt arriveLine turnLine s at) where
     pub held-neither : l ≡ Neither → ScheduleIs s (Unreadable (n + 1)) moves arrivals
@@ -210,16 +210,16 @@ module _ {s moves arrivals : List ℕ} {m n at : ℕ} (r : Held s moves arrivals
           let ms = firsts (moveAt moves arrivals) n in
           let u = arrive-room g in
           let w : firsts (moveAt moves′ arrivals′) (n + 1) ≡ ms ++ arriveFrom (cells 4 v) ∷ [] =
-          rw (d, f) (arrive-more moves arrivals m n (r .codes) (r .room) u (cells 4 v) refl (r .roomy) k) in
+          rw (d, f) (arrive-more moves arrivals m n (r .codes) (r .roomMoves) u (cells 4 v) refl (r .roomArrivals) k) in
           let x = reading-taken scheduleKinds [] s (r .reading) h e _ arrive-adds g _
           (within-yes (count isArrive ms) 64 _ (omega (arith, k, r .comes))) in
           record {
             reading = rw w x;
-            room = ap length d ∙ length-set moves n (65536 + m) ∙ r .room;
-            roomy = ap length f ∙ row-room 4 arrivals m (cells 4 v) refl (omega (arith, r .roomy, k)) ∙ r .roomy;
+            roomMoves = ap length d ∙ length-set moves n (65536 + m) ∙ r .roomMoves;
+            roomArrivals = ap length f ∙ row-room 4 arrivals m (cells 4 v) refl (omega (arith, r .roomArrivals, k)) ∙ r .roomArrivals;
             comes = ap (count isArrive) w ∙ count-yes isArrive ms _ refl ∙ omega (arith, r .comes);
-            few = omega (arith, k);
-            codes = rw d (codes-more moves arrivals m n (r .codes) (r .room) u (65536 + m) (m + 1) (omega arith) (omega arith));
+            fewArrivals = omega (arith, k);
+            codes = rw d (codes-more moves arrivals m n (r .codes) (r .roomMoves) u (65536 + m) (m + 1) (omega arith) (omega arith));
             bytes = omega (arith, arrive-bytes, r .bytes);
           }
 
@@ -249,14 +249,14 @@ module _ {s moves arrivals : List ℕ} {m n at : ℕ} (r : Held s moves arrivals
           let z : getD v 0 0 % 65536 ≡ getD v 0 0 = omega (arith, turn-line .1) in
           let d′ : moves′ ≡ set moves n (getD v 0 0) = d ∙ ap (set moves n) z in
           let w : firsts (moveAt moves′ arrivals) (n + 1) ≡ ms ++ turnFrom (cells 1 v) ∷ [] =
-          rw d′ (turn-more moves arrivals m n (r .codes) (r .room) u (getD v 0 0) (omega (arith, turn-line .1))) in
+          rw d′ (turn-more moves arrivals m n (r .codes) (r .roomMoves) u (getD v 0 0) (omega (arith, turn-line .1))) in
           let x = reading-taken scheduleKinds [] s (r .reading) h e _ turn-adds g _ refl in
           record {
             reading = rw w x;
-            room = ap length d′ ∙ length-set moves n (getD v 0 0) ∙ r .room;
-            roomy = r .roomy;
+            roomMoves = ap length d′ ∙ length-set moves n (getD v 0 0) ∙ r .roomMoves;
+            roomArrivals = r .roomArrivals;
             comes = ap (count isArrive) w ∙ count-no isArrive ms _ refl ∙ r .comes;
-            few = r .few;
-            codes = rw d′ (codes-more moves arrivals m n (r .codes) (r .room) u (getD v 0 0) m (omega arith) (omega (arith, turn-line .1)));
+            fewArrivals = r .fewArrivals;
+            codes = rw d′ (codes-more moves arrivals m n (r .codes) (r .roomMoves) u (getD v 0 0) m (omega arith) (omega (arith, turn-line .1)));
             bytes = omega (arith, turn-line .0, r .bytes);
           }

@@ -93,8 +93,8 @@ pub record Held (s a : List ℕ) (m n at : ℕ) : Type 0 where
   pub room : length a ≡ 640
   pub asks : count isRequest (firsts (eventAt a) (m + n)) ≡ m
   pub answers : count isResponse (firsts (eventAt a) (m + n)) ≡ n
-  pub few : m ≤ 64
-  pub fewer : n ≤ 64
+  pub fewRequests : m ≤ 64
+  pub fewResponses : n ≤ 64
 
 -- what the reader answers
 refused : (s a : List ℕ) (line : ℕ) → length a ≡ 640 → unreadable line ≡ readText traceKinds [] s → TraceIs s (Unreadable line) a
@@ -112,14 +112,14 @@ held-start s a l h =
       room = l;
       asks = refl;
       answers = refl;
-      few = omega arith;
-      fewer = omega arith;
+      fewRequests = omega arith;
+      fewResponses = omega arith;
     }
 
 module _ {s a : List ℕ} {m n at : ℕ} (r : Held s a m n at) where
   pub held-done : length s ≤ at → TraceIs s (Readable (m + n)) a
   unfolding readIn readTrace
-  held-done h = record { read = reading-done traceKinds [] s (r .reading) h; few = omega (arith, r .few, r .fewer); room = r .room }
+  held-done h = record { read = reading-done traceKinds [] s (r .reading) h; few = omega (arith, r .fewRequests, r .fewResponses); room = r .room }
 
   module _ (h : at < length s) (v : List ℕ) (l : Line) (t : toldIn l 4 3 v ≡ eitherAt requestLine responseLine s at) where
     pub held-neither : l ≡ Neither → TraceIs s (Unreadable (m + n + 1)) a
@@ -148,16 +148,16 @@ module _ {s a : List ℕ} {m n at : ℕ} (r : Held s a m n at) where
           let es = firsts (eventAt a) (m + n) in
           let j : m + 1 + n ≡ m + n + 1 = omega arith in
           let w : firsts (eventAt b) (m + 1 + n) ≡ es ++ requestFrom (cells 4 v) ∷ [] =
-          rw (d, j) (events-more a (m + n) 0 v (r .room) (omega (arith, k, r .fewer))) in
+          rw (d, j) (events-more a (m + n) 0 v (r .room) (omega (arith, k, r .fewResponses))) in
           let x = reading-taken traceKinds [] s (r .reading) h e _ request g _
           (within-yes (count isRequest es) 64 _ (omega (arith, k, r .asks))) in
           record {
             reading = rw (w, j) x;
-            room = ap length d ∙ row-room 5 a (m + n) (rowOf 0 v) refl (omega (arith, r .room, k, r .fewer)) ∙ r .room;
+            room = ap length d ∙ row-room 5 a (m + n) (rowOf 0 v) refl (omega (arith, r .room, k, r .fewResponses)) ∙ r .room;
             asks = ap (count isRequest) w ∙ count-yes isRequest es _ refl ∙ omega (arith, r .asks);
             answers = ap (count isResponse) w ∙ count-no isResponse es _ refl ∙ r .answers;
-            few = omega (arith, k);
-            fewer = r .fewer;
+            fewRequests = omega (arith, k);
+            fewResponses = r .fewResponses;
           }
 
     module _ (e : ℕ) (i : l ≡ Second e) where
@@ -180,14 +180,14 @@ module _ {s a : List ℕ} {m n at : ℕ} (r : Held s a m n at) where
           let es = firsts (eventAt a) (m + n) in
           let j : m + (n + 1) ≡ m + n + 1 = omega arith in
           let w : firsts (eventAt b) (m + (n + 1)) ≡ es ++ responseFrom (cells 3 v) ∷ [] =
-          rw (d, j) (events-more a (m + n) 1 v (r .room) (omega (arith, k, r .few))) in
+          rw (d, j) (events-more a (m + n) 1 v (r .room) (omega (arith, k, r .fewRequests))) in
           let x = reading-taken traceKinds [] s (r .reading) h e _ response g _
           (within-yes (count isResponse es) 64 _ (omega (arith, k, r .answers))) in
           record {
             reading = rw (w, j) x;
-            room = ap length d ∙ row-room 5 a (m + n) (rowOf 1 v) refl (omega (arith, r .room, k, r .few)) ∙ r .room;
+            room = ap length d ∙ row-room 5 a (m + n) (rowOf 1 v) refl (omega (arith, r .room, k, r .fewRequests)) ∙ r .room;
             asks = ap (count isRequest) w ∙ count-no isRequest es _ refl ∙ r .asks;
             answers = ap (count isResponse) w ∙ count-yes isResponse es _ refl ∙ omega (arith, r .answers);
-            few = r .few;
-            fewer = omega (arith, k);
+            fewRequests = r .fewRequests;
+            fewResponses = omega (arith, k);
           }

@@ -1,19 +1,19 @@
--- What the arrays of a text that was read stand for, and what the readers promise.
+-- What the arrays of a text that was read stand for, and what the readers promise. What a lent array holds behind the lines that were read,
+-- and all of it where the text is unreadable, is left free; only its length is kept.
 use Prim.Native.Nat.{ℕ, _%_, _≤_, _<_}
-use mathlib.Core.List.{List, []}
-use mathlib.Core.Bool.{cond}
+use mathlib.Core.List.{List}
+use mathlib.Core.Bool.{true, false, cond}
 use mathlib.Core.Path.{_≡_}
-use lib.ListN.{length, getD, take, drop}
+use lib.ListN.{length, getD, take, drop, replicate}
 use lib.Dec.{eqb, ltb}
 use Rattle.text.specs.Text.{Read, readable, unreadable}
-use Rattle.text.specs.Programs.{readPrograms}
+use Rattle.text.specs.Programs.{noInstr, noProgram, readPrograms}
 use Rattle.text.specs.Trace.{requestFrom, responseFrom, readTrace}
 use Rattle.text.specs.Report.{Report, ofFrom, entryFrom, readReport}
 use Rattle.text.specs.Schedule.{arriveFrom, readSchedule}
 use Rattle.text.specs.Rows.{row, firsts}
 use Rattle.text.specs.declared.kinds.Lines.{Lines}
 use Rattle.text.specs.declared.kinds.Lines.the-variants.{Readable, Unreadable}
-use Rattle.text.specs.declared.programs.Instr.{Instr}
 use Rattle.text.specs.declared.programs.Program.{Program}
 use Rattle.text.specs.declared.programs.Programs.{Programs}
 use Rattle.text.specs.declared.trace.Event.{Event}
@@ -71,10 +71,10 @@ logsIn (BadLine line) = 0
 
 pub record ReportIs (s : List ℕ) (r : ReportLines) (ofs logs : List ℕ) : Type 0 where
   pub read : reportIn ofs logs r ≡ readReport s
-  pub few : ofsIn r ≤ 64
-  pub fewer : logsIn r ≤ 1024
-  pub room : length ofs ≡ 192
-  pub roomy : length logs ≡ 6144
+  pub fewOfs : ofsIn r ≤ 64
+  pub fewEntries : logsIn r ≤ 1024
+  pub roomOfs : length ofs ≡ 192
+  pub roomEntries : length logs ≡ 6144
 
 -- a schedule's line is kept as one number: the rid of a turn, or 65,536 and the arrival's row
 abbrev pub moveFrom : List ℕ → ℕ → Move
@@ -85,16 +85,9 @@ moveAt moves arrivals i = moveFrom arrivals (getD moves i 0)
 
 pub record ScheduleIs (s : List ℕ) (r : Lines) (moves arrivals : List ℕ) : Type 0 where
   pub read : readIn (moveAt moves arrivals) r ≡ readSchedule s
-  pub few : linesIn r ≤ 9362
-  pub room : length moves ≡ 9362
-  pub roomy : length arrivals ≡ 256
-
--- what stands past the end of a program's array, and of the table
-abbrev pub noInstr : Instr
-noInstr = record { code = 0; a = 0; b = 0; c = 0 }
-
-abbrev pub noProgram : Program
-noProgram = record { number = 0; n = 0; code = [] }
+  pub fewMoves : linesIn r ≤ 9362
+  pub roomMoves : length moves ≡ 9362
+  pub roomArrivals : length arrivals ≡ 256
 
 -- a program with just its n instructions
 abbrev pub trimmed : Program → Program
@@ -115,8 +108,21 @@ pub record Bounded (p : Program) : Type 0 where
   pub few : p .n ≤ 64
   pub blank : (j : ℕ) → p .n ≤ j → getD (p .code) j noInstr ≡ noInstr
 
+-- the answer for an unreadable text: no programs
+abbrev pub unreadablePrograms : ℕ → Programs
+unreadablePrograms line =
+    record {
+      ok = false;
+      line = line;
+      n = 0;
+      table = replicate 16 (record { number = 0; n = 0; code = replicate 64 noInstr });
+    }
+
+-- what the table holds behind the n programs is left free
 pub record ProgramsIs (s : List ℕ) (r : Programs) : Type 0 where
   pub read : programsIn r ≡ readPrograms s
+  pub lineless : r .ok ≡ true → r .line ≡ 0
+  pub unread : r .ok ≡ false → r ≡ unreadablePrograms (r .line)
   pub few : r .n ≤ 16
   pub bounded : (i : ℕ) → i < r .n → Bounded (getD (r .table) i noProgram)
   pub room : length (r .table) ≡ 16

@@ -4,6 +4,7 @@ pub mod Programs
 pub mod Trace
 pub mod Report
 pub mod Schedule
+pub mod Written
 pub mod Rows
 pub mod Scans
 pub mod Held

@@ -1,12 +1,25 @@
 -- The programs text: at most 16 programs of at most 64 instructions each.
 use Prim.Native.Nat.{ℕ, suc}
 use mathlib.Core.List.{List, [], _∷_, _++_}
+use mathlib.Core.Bool.{Bool}
 use mathlib.Core.Option.{Option, some, none}
+use lib.Dec.{ltb}
 use lib.ListN.{length, getD}
 use Rattle.text.specs.Text.{Read, Kind, within, readText}
 use Rattle.text.specs.Formats.{programLine, doLine, mostPrograms, mostInstructions}
 use Rattle.text.specs.declared.programs.Instr.{Instr}
 use Rattle.text.specs.declared.programs.Program.{Program}
+
+-- the blank instruction and program: what stands past the end of a program, and of the table
+abbrev pub noInstr : Instr
+noInstr = record { code = 0; a = 0; b = 0; c = 0 }
+
+abbrev pub noProgram : Program
+noProgram = record { number = 0; n = 0; code = [] }
+
+-- the numbers of the programs that there are
+abbrev pub known : List Program → ℕ → Bool
+known table prog = ltb prog (length table)
 
 -- the numbers of a `do` line
 abbrev pub instrFrom : List ℕ → Instr

@@ -3,9 +3,7 @@ use Prim.Native.Nat.{ℕ}
 use mathlib.Core.List.{List, [], _∷_, _++_}
 use mathlib.Core.Option.{Option, none}
 use lib.ListN.{length, getD}
-use Rattle.lines.specs.Line.{InRanges}
-use Rattle.lines.specs.LineText.{lineText}
-use Rattle.text.specs.Text.{Read, Kind, within, linesText, readText}
+use Rattle.text.specs.Text.{Read, Kind, within, readText}
 use Rattle.text.specs.Formats.{ofLine, logLine, mostOfs, mostEntries}
 use Rattle.text.specs.declared.report.Of.{Of}
 use Rattle.text.specs.declared.report.Entry.{Entry}
@@ -13,6 +11,9 @@ use Rattle.text.specs.declared.report.Entry.{Entry}
 pub record Report : Type 0 where
   pub ofs : List Of
   pub log : List Entry
+
+abbrev pub noLines : Report
+noLines = record { ofs = []; log = [] }
 
 -- the numbers of an `of` and of a `log` line
 abbrev pub ofFrom : List ℕ → Of
@@ -41,28 +42,4 @@ abbrev pub reportKinds : List (Kind Report)
 reportKinds = record { format = ofLine; add = addOf } ∷ record { format = logLine; add = addLog } ∷ []
 
 unfoldable pub readReport : List ℕ → Read Report
-readReport s = readText reportKinds (record { ofs = []; log = [] }) s
-
--- the numbers of a line
-abbrev pub ofNumbers : Of → List ℕ
-ofNumbers o = o .rid ∷ o .group ∷ o .count ∷ []
-
-abbrev pub entryNumbers : Entry → List ℕ
-entryNumbers l = l .op .object ∷ l .rid ∷ l .num ∷ l .op .kind ∷ l .op .key ∷ l .op .value ∷ []
-
--- each field in its range
-abbrev pub OfIn : Of → Type 0
-OfIn o = InRanges (ofLine .ranges) (ofNumbers o)
-
-abbrev pub EntryIn : Entry → Type 0
-EntryIn l = InRanges (logLine .ranges) (entryNumbers l)
-
--- the report as bytes
-unfoldable pub ofText : Of → List ℕ
-ofText o = lineText (ofLine .word) (ofNumbers o)
-
-unfoldable pub entryText : Entry → List ℕ
-entryText l = lineText (logLine .word) (entryNumbers l)
-
-unfoldable pub reportText : Report → List ℕ
-reportText r = linesText ofText (r .ofs) ++ linesText entryText (r .log)
+readReport s = readText reportKinds noLines s

@@ -1,14 +1,10 @@
 -- What the private functions of this crate promise. The public contracts do not need it.
 use Prim.Native.Nat.{ℕ, min}
 use mathlib.Core.List.{List}
-use mathlib.Core.Bool.{false}
-use lib.ListN.{replicate}
 use Rattle.lines.specs.Line.{Format}
 use Rattle.lines.specs.Place.{Found, found, nothing, lineAt, cells}
 use Rattle.lines.specs.declared.lines.Place.{Place}
 use Rattle.lines.specs.declared.lines.Place.the-variants.{At, Nowhere}
-use Rattle.text.specs.Held.{noInstr}
-use Rattle.text.specs.declared.programs.Programs.{Programs}
 use Rattle.text.specs.declared.kinds.Line.{Line}
 use Rattle.text.specs.declared.kinds.Line.the-variants.{First, Second, Neither}
 
@@ -42,13 +38,3 @@ unfoldable pub toldIn : Line → ℕ → ℕ → List ℕ → Told
 toldIn (First e) m n v = first (cells (min m 6) v) e
 toldIn (Second e) m n v = second (cells (min n 6) v) e
 toldIn Neither m n v = neither
-
--- an answer with no programs
-abbrev pub unreadablePrograms : ℕ → Programs
-unreadablePrograms line =
-    record {
-      ok = false;
-      line = line;
-      n = 0;
-      table = replicate 16 (record { number = 0; n = 0; code = replicate 64 noInstr });
-    }

@@ -1,6 +1,6 @@
 -- A text is its lines, each of one of the text's kinds and ended by a line feed.
 use Prim.Native.Nat.{ℕ, suc}
-use mathlib.Core.List.{List, [], _∷_, _++_}
+use mathlib.Core.List.{List, [], _∷_}
 use mathlib.Core.Option.{Option, some, none}
 use mathlib.Core.Bool.{Bool, true, false}
 use lib.ListN.{length}
@@ -27,16 +27,6 @@ within n limit x = elim (ltb n limit) [ true ↦ some x | false ↦ none ]
 unfoldable pub count : {A : Type 0} → (A → Bool) → List A → ℕ
 count f [] = 0
 count f (x ∷ xs) = elim (f x) [ true ↦ suc (count f xs) | false ↦ count f xs ]
-
--- all pass
-abbrev pub All : {A : Type 0} → (A → Type 0) → List A → Type 0
-All P [] = Unit {0}
-All P (x ∷ xs) = P x × All P xs
-
--- lines as bytes, one behind the other
-unfoldable pub linesText : {A : Type 0} → (A → List ℕ) → List A → List ℕ
-linesText f [] = []
-linesText f (x ∷ xs) = f x ++ linesText f xs
 
 module _ {S : Type 0} where
   -- the line p, of the first kind that it fits, joins what was read

@@ -4,9 +4,7 @@ use mathlib.Core.List.{List, [], _∷_, _++_}
 use mathlib.Core.Option.{Option}
 use mathlib.Core.Bool.{Bool, true, false, not}
 use lib.ListN.{getD}
-use Rattle.lines.specs.Line.{Format, InRanges}
-use Rattle.lines.specs.LineText.{lineText}
-use Rattle.text.specs.Text.{Read, Kind, within, count, linesText, readText}
+use Rattle.text.specs.Text.{Read, Kind, within, count, readText}
 use Rattle.text.specs.Formats.{requestLine, responseLine, mostRequests, mostResponses}
 use Rattle.text.specs.declared.trace.Event.{Event}
 use Rattle.text.specs.declared.trace.Event.the-variants.{Request, Response}
@@ -36,23 +34,3 @@ traceKinds = record { format = requestLine; add = addRequest } ∷ record { form
 
 unfoldable pub readTrace : List ℕ → Read (List Event)
 readTrace s = readText traceKinds [] s
-
--- the format and the numbers of an event's line
-abbrev pub eventFormat : Event → Format
-eventFormat (Request rid prog a b) = requestLine
-eventFormat (Response rid status value) = responseLine
-
-abbrev pub eventNumbers : Event → List ℕ
-eventNumbers (Request rid prog a b) = rid ∷ prog ∷ a ∷ b ∷ []
-eventNumbers (Response rid status value) = rid ∷ status ∷ value ∷ []
-
--- each field in its range
-abbrev pub EventIn : Event → Type 0
-EventIn e = InRanges (eventFormat e .ranges) (eventNumbers e)
-
--- the trace as bytes
-unfoldable pub eventText : Event → List ℕ
-eventText e = lineText (eventFormat e .word) (eventNumbers e)
-
-unfoldable pub traceText : List Event → List ℕ
-traceText es = linesText eventText es

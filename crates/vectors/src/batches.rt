@@ -9,7 +9,7 @@ ghost use Prim.Native.Nat.{_≤_};
 ghost use lib.ListN.{length};
 
 // Audits the batch at the front of s and prints the result: how many bytes it takes, or 0 where there is none.
-pub fn run_batch(s: &[u8]) -> usize
+pub(crate) fn run_batch(s: &[u8]) -> usize
     ensures { λ r. ⌜ r ≤ length (now (s .entry)) ⌝ }
 {
     let mut v = [0u64; 6];

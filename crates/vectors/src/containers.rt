@@ -18,7 +18,7 @@ pub enum Header {
 }
 
 // Where n bytes from start on end, or the end of s where there are fewer.
-pub fn end_of(s: &[u8], start: usize, n: usize) -> usize
+pub(crate) fn end_of(s: &[u8], start: usize, n: usize) -> usize
     ensures { λ r. ⌜ r ≡ min (start + n) (length (now (s .entry))) ⌝ }
 {
     if s.len() < start {
@@ -31,7 +31,7 @@ pub fn end_of(s: &[u8], start: usize, n: usize) -> usize
 }
 
 // The header at the front of s, with n numbers, which go into v.
-pub fn read_header(s: &[u8], n: usize, v: &mut [u64; 6]) -> Header
+pub(crate) fn read_header(s: &[u8], n: usize, v: &mut [u64; 6]) -> Header
     ensures { λ r. ⌜ EndsWithin (length (now (s .entry))) r ⌝ }
 {
     let equals = bytes::scan::find(s, 0, s.len(), b'=');
@@ -45,7 +45,7 @@ pub fn read_header(s: &[u8], n: usize, v: &mut [u64; 6]) -> Header
 }
 
 // Prints a line: a name and numbers.
-pub fn print_line(name: &[u8], f: Fields) {
+pub(crate) fn print_line(name: &[u8], f: Fields) {
     let mut out = [0u8; 256];
     let Put::Wrote(n) = put_line(&mut out, name, f) else {
         io::write_all(STDERR_FILENO, b"a name is too long\n");

@@ -53,7 +53,7 @@ fn run_lent(
 
 // Runs the schedule at the front of s and prints the result: how many bytes it takes, or 0 where there is none. The buffers hold bytes
 // before that no text has.
-pub fn run_schedule(s: &[u8]) -> usize
+pub(crate) fn run_schedule(s: &[u8]) -> usize
     ensures { λ r. ⌜ r ≤ length (now (s .entry)) ⌝ }
 {
     let mut v = [0u64; 6];

@@ -8,5 +8,6 @@ pub mod SameReplays
 pub mod Verdicts
 -- Demand 3 for texts
 pub mod Acceptance
+pub mod Main
 -- Computed examples, which the host's table takes over
 pub mod Stars

@@ -1,16 +1,19 @@
 -- The printed lines as three pieces, and how long they are.
-use Prim.Native.Nat.{ℕ, _+_, _<_}
+use Prim.Native.Nat.{ℕ, _+_, _<_, _≤_}
 use mathlib.Core.List.{List, [], _∷_, _++_, append-nil}
 use mathlib.Core.Path.{_≡_, sym, ap, subst}
 use native.Mathlib.Omega.{arith}
 use lib.ListN.{length, length-append}
+use mir.Syntax.{w64}
+use mir.Val.{Fits}
 use Rattle.lines.specs.Bytes.{bytes}
 use Rattle.lines.specs.LineText.{numbersText, lineText}
 use Rattle.lines.specs.Put.{PutIs}
 use Rattle.lines.specs.declared.writer.Put.{Put}
 use Rattle.lines.proofs.LineTexts.{line-length}
 use Rattle.writing.specs.Verdict.{verdictText}
-use Rattle.verifier.specs.Printed.{auditedText}
+use Rattle.writing.proofs.VerdictTexts.{number-most, verdict-most}
+use Rattle.verifier.specs.Printed.{auditedText, mostPrinted}
 use Rattle.verifier.specs.declared.Audited.{Audited}
 
 module _ (a : Audited) where
@@ -33,6 +36,13 @@ module _ (a : Audited) where
   -- so that no byte written says that nothing was
   pub printed-some : 0 < length (auditedText a)
   printed-some = omega (arith, printed-length)
+
+-- a result whose numbers have 64 bits
+pub printed-most : (a b : Audited) → a ≡ b → Fits w64 (a .verdict) → Fits w64 (a .line) → Fits w64 (a .requests) →
+    Fits w64 (a .operations) → length (auditedText b) ≤ mostPrinted
+printed-most a b e v l r o =
+    subst (λ x. length (auditedText x) ≤ mostPrinted) e
+    (omega (arith, printed-length a, verdict-most (a .verdict) (a .line) v l, number-most r, number-most o))
 
 pub put-as : (a b : Audited) (o p : List ℕ) (r : Put) → a ≡ b → PutIs (auditedText a) o p r → PutIs (auditedText b) o p r
 put-as a b o p r e h = subst (λ x. PutIs (auditedText x) o p r) e h

@@ -16,9 +16,10 @@ use Rattle.text.specs.declared.trace.Event.the-variants.{Request, Response}
 use Rattle.text.specs.declared.trace.Event.{Event}
 use Rattle.text.proofs.RowLaws.{firsts-length, set-next}
 use Rattle.ordering.proofs.Basics.{byBool, eqb-yes, eqb-no, yes-eqb, and-true}
-use Rattle.model.specs.Audit.{row6From, bad7, row7}
+use Rattle.model.specs.Requests.{row6From}
+use Rattle.model.specs.Claims.{bad7, row7}
+use Rattle.model.specs.FirstBad.{firstBad}
 use Rattle.model.specs.Batch.{named, countOf, claims, claimed}
-use Rattle.model.specs.Checks.{firstBad}
 use Rattle.model.proofs.LineScans.{above, from, firsts-from, from-next, from-end, Scanned, scan-on, scan-bad, scan-end}
 use Rattle.machine.specs.Rules.{brokenLine}
 use Rattle.machine.specs.declared.rules.Ruling.the-variants.{Kept, Broken}

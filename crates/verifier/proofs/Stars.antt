@@ -4,19 +4,22 @@ use Prim.Native.String.{String}
 use mathlib.Core.List.{List, [], _∷_, _++_, map}
 use mathlib.Core.Path.{_≡_, refl}
 use Rattle.lines.specs.Bytes.{bytes}
+use Rattle.lines.specs.Decimal.{digitsIn, decimal}
 use Rattle.lines.specs.Line.{prefix, fieldOf, fieldsOf, lineOf}
+use Rattle.lines.specs.LineText.{separatorOf, numbersText, lineText}
 use Rattle.lines.specs.Number.{pushOf, digitsOf, numberOf}
 use Rattle.lines.specs.Parts.{onto, parts}
 use Rattle.text.specs.Programs.{addProgram, addDo, readPrograms}
 use Rattle.text.specs.Report.{addOf, addLog, readReport}
 use Rattle.text.specs.Text.{within, count, addLine, readLines, readText}
 use Rattle.text.specs.Trace.{addRequest, addResponse, readTrace}
+use Rattle.writing.specs.Verdict.{verdictText}
 use Rattle.ordering.specs.Maps.{upd}
-use Rattle.ordering.specs.Order.{bump}
+use Rattle.ordering.specs.Merge.{bump}
 use Rattle.machine.specs.Instructions.{effectAs}
 use Rattle.machine.specs.Processes.{go}
-use Rattle.machine.specs.Rules.{instructions, programs}
 use Rattle.verifier.specs.Faults.{auditOf}
+use Rattle.verifier.specs.Printed.{auditedText}
 use Rattle.verifier.specs.declared.Audited.{Audited}
 
 -- three texts as their lines, and what the audit finds
@@ -54,10 +57,19 @@ traceC response1 response2 = "request=1,0,0,0" ∷ "request=2,1,0,0" ∷ respons
 abbrev pub reportC : (of2 log1 : String) → List String
 reportC of2 log1 = "of=1,0,2" ∷ of2 ∷ log1 ∷ "log=0,2,2,6,0,0" ∷ "log=1,2,1,7,0,1" ∷ "log=1,1,2,6,0,0" ∷ []
 
+abbrev caseC : Case
+caseC = case programsABC (traceC "response=1,0,1" "response=2,0,1") (reportC "of=2,1,2" "log=0,1,1,7,0,1") (accepted 2 4)
+
+-- C with another value in its first log line, and all three texts empty
+abbrev valueChanged : Case
+valueChanged = case programsABC (traceC "response=1,0,1" "response=2,0,1") (reportC "of=2,1,2" "log=0,1,1,7,0,2") (refused 10 1)
+
+abbrev allEmpty : Case
+allEmpty = case [] [] [] (accepted 0 0)
+
 abbrev pub cases : List Case
 cases =
-    -- C
-    case programsABC (traceC "response=1,0,1" "response=2,0,1") (reportC "of=2,1,2" "log=0,1,1,7,0,1") (accepted 2 4)
+    caseC
     -- B
     ∷ case programsABC (traceC "response=1,0,0" "response=2,0,0")
     ("of=1,0,2" ∷ "of=2,1,2" ∷ "log=0,2,2,6,0,0" ∷ "log=0,1,1,7,0,1" ∷ "log=1,1,2,6,0,0" ∷ "log=1,2,1,7,0,1" ∷ []) (refused 9 0)
@@ -65,11 +77,10 @@ cases =
     ∷ case programsABC ("request=1,0,0,0" ∷ "response=1,0,1" ∷ "request=2,1,0,0" ∷ "response=2,0,0" ∷ [])
     ("of=1,0,2" ∷ "of=2,1,2" ∷ "log=0,2,2,6,0,0" ∷ "log=0,1,1,7,0,1" ∷ "log=1,2,1,7,0,1" ∷ "log=1,1,2,6,0,0" ∷ []) (refused 9 0)
     -- C's single changes: the first log value, the second response, the second group
-    ∷ case programsABC (traceC "response=1,0,1" "response=2,0,1") (reportC "of=2,1,2" "log=0,1,1,7,0,2") (refused 10 1)
+    ∷ valueChanged
     ∷ case programsABC (traceC "response=1,0,1" "response=2,0,5") (reportC "of=2,1,2" "log=0,1,1,7,0,1") (refused 11 2)
     ∷ case programsABC (traceC "response=1,0,1" "response=2,0,1") (reportC "of=2,0,2" "log=0,1,1,7,0,1") (refused 12 2)
-    -- all three texts empty
-    ∷ case [] [] [] (accepted 0 0)
+    ∷ allEmpty
     -- the program that never replies is cut off
     ∷ case ("program=0" ∷ "do=1,2,1,0" ∷ "do=5,2,0,0" ∷ "do=0,0,0,0" ∷ []) ("request=1,0,0,0" ∷ "response=1,1,0" ∷ []) ("of=1,0,0" ∷ [])
     (accepted 1 0)
@@ -77,8 +88,19 @@ cases =
 
 stars : map audits cases ≡ map (λ c. c .finds) cases
 unfolding auditOf readPrograms readTrace readReport readText readLines addLine lineOf fieldsOf fieldOf prefix numberOf digitsOf pushOf
-    parts onto within count addProgram addDo addRequest addResponse addOf addLog programs instructions go effectAs upd bump
+    parts onto within count addProgram addDo addRequest addResponse addOf addLog go effectAs upd bump
 stars = refl
+
+-- what the program prints of C, of empty texts, and of a refusal
+printed : map (λ c. auditedText (audits c)) (caseC ∷ allEmpty ∷ valueChanged ∷ [])
+    ≡ text ("verdict=0" ∷ "line=0" ∷ "requests=2" ∷ "operations=4" ∷ [])
+    ∷ text ("verdict=0" ∷ "line=0" ∷ "requests=0" ∷ "operations=0" ∷ [])
+    ∷ text ("verdict=10" ∷ "line=1" ∷ "requests=0" ∷ "operations=0" ∷ [])
+    ∷ []
+unfolding auditOf readPrograms readTrace readReport readText readLines addLine lineOf fieldsOf fieldOf prefix numberOf digitsOf pushOf
+    parts onto within count addProgram addDo addRequest addResponse addOf addLog go effectAs upd bump
+    auditedText verdictText lineText numbersText separatorOf decimal digitsIn
+printed = refl
 
 -- ── the small examples of rows 1 to 8 ──
 abbrev pub replies : List String
@@ -107,5 +129,5 @@ small =
 
 rows-1-to-8 : map audits small ≡ map (λ c. c .finds) small
 unfolding auditOf readPrograms readTrace readReport readText readLines addLine lineOf fieldsOf fieldOf prefix numberOf digitsOf pushOf
-    parts onto within count addProgram addDo addRequest addResponse addOf addLog programs instructions go effectAs upd bump
+    parts onto within count addProgram addDo addRequest addResponse addOf addLog go effectAs upd bump
 rows-1-to-8 = refl

@@ -7,7 +7,7 @@ use native.Mathlib.Omega.{arith}
 use Rattle.text.specs.Rows.{firsts}
 use Rattle.text.specs.declared.trace.Event.the-variants.{Request, Response}
 use Rattle.text.specs.declared.trace.Event.{Event}
-use Rattle.model.specs.Audit.{bad4, row4, unanswered}
+use Rattle.model.specs.Requests.{bad4, row4, unanswered}
 use Rattle.model.specs.Batch.{requested, answered}
 use Rattle.model.proofs.LineScans.{above, Scanned, scan-on, scan-bad}
 use Rattle.machine.specs.Rules.{brokenLine}

@@ -9,26 +9,10 @@ use native.Mathlib.Omega.{arith}
 use borrow.Author.Tests.{ltb-true}
 use lib.Dec.{ltb}
 use lib.ListN.{length, getD}
-use Rattle.text.specs.Held.{
-  noProgram,
-  Bounded,
-  eventAt,
-  ofAt,
-  entryAt,
-  readIn,
-  reportIn,
-  programAt,
-  programsIn,
-  TraceIs,
-  ReportIs,
-  ProgramsIs,
-  ofsIn,
-  logsIn,
-  tableIn,
-}
+use Rattle.text.specs.Held.{Bounded, eventAt, ofAt, entryAt, readIn, reportIn, programAt, programsIn, TraceIs, ReportIs, ProgramsIs, ofsIn, logsIn, tableIn, reportOf}
 use Rattle.text.specs.Held as held
-use Rattle.text.specs.Programs.{readPrograms}
-use Rattle.text.specs.Report.{Report, readReport}
+use Rattle.text.specs.Programs.{noProgram, readPrograms, known}
+use Rattle.text.specs.Report.{Report, noLines, readReport}
 use Rattle.text.specs.Rows.{firsts}
 use Rattle.text.specs.Text.{Read, readable, unreadable, count}
 use Rattle.text.specs.Trace.{isRequest, readTrace}
@@ -43,31 +27,26 @@ use Rattle.text.specs.declared.trace.Event.the-variants.{Request, Response}
 use Rattle.text.specs.declared.trace.Event.{Event}
 use Rattle.text.proofs.ProgramsReading.{table-read}
 use Rattle.text.proofs.RowLaws.{firsts-length}
-use Rattle.model.specs.Audit.{row4, row4Open, row6, row7, row8, row9, replayChecks, reportChecks}
-use Rattle.model.specs.Batch.{Batch}
-use Rattle.model.specs.Checks.{Verdict, Check, check, verdict, firstFault}
+use Rattle.model.specs.Audit.{from8, from6, from4}
+use Rattle.model.specs.Requests.{row4, row4Open, row6}
+use Rattle.model.specs.Claims.{row7}
+use Rattle.model.specs.Batch.{Batch, batchOf}
+use Rattle.model.specs.Checks.{Verdict, verdict, faultOr, firstFault, badLine, contents}
+use Rattle.model.proofs.Scans.{holds, passes}
 use Rattle.model.proofs.Trace.{Matching, row4-order, row6-matching}
-use Rattle.machine.specs.Instance.{known, machine}
+use Rattle.machine.specs.Instance.{machineOf}
 use Rattle.machine.specs.Objects.{atStart}
 use Rattle.machine.specs.Processes.{limit}
-use Rattle.machine.specs.Rules.{rulingOf, brokenLine}
+use Rattle.machine.specs.Rules.{brokenLine, row2}
 use Rattle.machine.specs.declared.rules.Ruling.the-variants.{Kept, Broken}
 use Rattle.machine.specs.declared.rules.Ruling.{Ruling}
+use Rattle.machine.proofs.Rulings.{broken, kept}
 use Rattle.machine.proofs.Tables.{same-code}
-use Rattle.replay.specs.Judges.{batchIn, Ready, checks, Judges}
+use Rattle.replay.specs.Judges.{batchIn, Ready, Judges}
 use Rattle.replay.specs.declared.Fault.{Fault}
 use Rattle.verifier.specs.Accepts.{Accepts}
-use Rattle.verifier.specs.Faults.{badLine, contents, row2, batchOf, audited, auditedOf, auditOf}
-use Rattle.verifier.specs.Steps.{
-  refusal,
-  eventsIn,
-  linesIn,
-  auditedReport,
-  auditedTrace,
-  ReportChecked,
-  BatchHeld,
-  BatchChecked,
-}
+use Rattle.verifier.specs.Faults.{checksOf, audited, auditedOf, auditOf}
+use Rattle.verifier.specs.Steps.{refusal, eventsIn, auditedReport, auditedTrace, ReportChecked, BatchHeld, BatchChecked}
 use Rattle.verifier.specs.declared.Audited.{Audited}
 use Rattle.verifier.specs.declared.audits.Checked.{Checked}
 use Rattle.verifier.specs.declared.audits.Checked.the-variants.{Refused}
@@ -75,31 +54,6 @@ use Rattle.verifier.specs.declared.audits.Checked.the-variants as checke
 use Rattle.verifier.proofs.Acceptance.{audit-accepts}
 use Rattle.verifier.proofs.ReportRanges.{report-in-range}
 use Rattle.verifier.proofs.SameReplays.{replays-same}
-
--- ── one row ──
--- a ruling r tells the line o of a row, and is k's
-pub broken : (r : Ruling) (o : Option ℕ) (line : ℕ) → brokenLine r ≡ o → r ≡ Broken line → o ≡ some line
-broken r o line e d = sym e ∙ ap brokenLine d
-
-pub kept : (r : Ruling) (o : Option ℕ) → brokenLine r ≡ o → r ≡ Kept → o ≡ none
-kept r o e d = sym e ∙ ap brokenLine d
-
--- three rows, and those behind them
-module _ (i j k : ℕ) (a b c : Option ℕ) (cs : List Check) where
-  abbrev rows : List Check
-  rows = check i a ∷ check j b ∷ check k c ∷ cs
-
-  first-holds : (n : ℕ) → a ≡ some n → verdict i n ≡ firstFault rows
-  first-holds n e = rw e
-
-  second-holds : a ≡ none → (n : ℕ) → b ≡ some n → verdict j n ≡ firstFault rows
-  second-holds d n e = rw (d, e)
-
-  third-holds : a ≡ none → b ≡ none → (n : ℕ) → c ≡ some n → verdict k n ≡ firstFault rows
-  third-holds d f n e = rw (d, f, e)
-
-  none-holds : a ≡ none → b ≡ none → c ≡ none → firstFault cs ≡ firstFault rows
-  none-holds d f e = rw (d, f, e)
 
 -- ── rows 6 and 7 ──
 -- one `of` line for each request
@@ -115,51 +69,52 @@ module _ (table : List Program) (events : List Event) (lines : Report) where
   abbrev b : Batch
   b = batchOf events lines
 
-  abbrev behind8 : List Check
-  behind8 = check 9 (row9 b) ∷ replayChecks (machine limit table) atStart b 1 (b .ofs)
+  abbrev rows6 : Verdict
+  rows6 = firstFault (from6 (machineOf table) atStart b)
 
   -- a verdict with the counts of the batch
   abbrev counted : Verdict → Audited
   counted v = audited v (count isRequest events) (length (lines .log))
 
   pub at-6 : (line : ℕ) → row6 b ≡ some line → refusal 6 line ≡ auditedReport table events lines
-  at-6 line e = ap counted (first-holds 6 7 8 (row6 b) (row7 b) (row8 b) behind8 line e)
+  at-6 line e = let v : verdict 6 line ≡ rows6 = holds verdict 6 (row6 b) _ line e in ap counted v
 
-  pub at-7 : row6 b ≡ none → (line : ℕ) → row7 b ≡ some line → refusal 7 line ≡ auditedReport table events lines
-  at-7 d line e = ap counted (second-holds 6 7 8 (row6 b) (row7 b) (row8 b) behind8 d line e)
+  module _ (d : row6 b ≡ none) where
+    pub at-7 : (line : ℕ) → row7 b ≡ some line → refusal 7 line ≡ auditedReport table events lines
+    at-7 line e = let v : verdict 7 line ≡ rows6 = holds verdict 7 (row7 b) _ line e ∙ passes verdict 6 (row6 b) _ d in ap counted v
 
-  past-7 : row6 b ≡ none → row7 b ≡ none →
-      firstFault (check 8 (row8 b) ∷ behind8) ≡ firstFault (reportChecks (machine limit table) atStart b)
-  past-7 d f = λ i. firstFault (check 6 (sym d i) ∷ check 7 (sym f i) ∷ check 8 (row8 b) ∷ behind8)
+    past-7 : row7 b ≡ none → firstFault (from8 (machineOf table) atStart b) ≡ rows6
+    past-7 e = passes verdict 7 (row7 b) _ e ∙ passes verdict 6 (row6 b) _ d
 
 -- ── rows 4 and 5 ──
 module _ (table : List Program) (events : List Event) (report : Read Report) where
   abbrev lines : Report
-  lines = contents (record { ofs = []; log = [] }) report
+  lines = contents noLines report
 
-  abbrev behind5 : List Check
-  behind5 = reportChecks (machine limit table) atStart (batchOf events lines)
+  abbrev rows4 : Verdict
+  rows4 = firstFault (from4 (machineOf table) atStart (known table) events report)
 
   at-4 : (line : ℕ) → row4 (known table) events ≡ some line → refusal 4 line ≡ auditedTrace table events report
-  at-4 line e =
-      ap (counted table events lines) (first-holds 4 4 5 (row4 (known table) events) (row4Open events) (badLine report) behind5 line e)
+  at-4 line e = let v : verdict 4 line ≡ rows4 = holds verdict 4 (row4 (known table) events) _ line e in ap (counted table events lines) v
 
   module _ (d : row4 (known table) events ≡ none) where
     at-4-open : (line : ℕ) → row4Open events ≡ some line → refusal 4 line ≡ auditedTrace table events report
     at-4-open line e =
-        ap (counted table events lines) (second-holds 4 4 5 (row4 (known table) events) (row4Open events) (badLine report) behind5 d line e)
+        let v : verdict 4 line ≡ rows4 = holds verdict 4 (row4Open events) _ line e ∙ passes verdict 4 (row4 (known table) events) _ d in
+        ap (counted table events lines) v
 
     module _ (f : row4Open events ≡ none) where
+      past-4 : faultOr verdict 5 (badLine report) (rows6 table events lines) ≡ rows4
+      past-4 = passes verdict 4 (row4Open events) _ f ∙ passes verdict 4 (row4 (known table) events) _ d
+
       at-5 : (line : ℕ) → report ≡ unreadable line → refusal 5 line ≡ auditedTrace table events report
       at-5 line e =
-          ap (counted table events lines)
-          (third-holds 4 4 5 (row4 (known table) events) (row4Open events) (badLine report) behind5 d f line (ap badLine e))
+          ap (counted table events lines) (holds verdict 5 (badLine report) (rows6 table events lines) line (ap badLine e) ∙ past-4)
 
       past-5 : (x : Report) → report ≡ readable x → auditedReport table events x ≡ auditedTrace table events report
       past-5 x e =
-          ap (λ y. auditedReport table events (contents (record { ofs = []; log = [] }) y)) (sym e)
-          ∙ ap (counted table events lines)
-          (none-holds 4 4 5 (row4 (known table) events) (row4Open events) (badLine report) behind5 d f (ap badLine e))
+          ap (λ y. auditedReport table events (contents noLines y)) (sym e)
+          ∙ ap (counted table events lines) (passes verdict 5 (badLine report) (rows6 table events lines) (ap badLine e) ∙ past-4)
 
 -- the program numbers that are known, by their count
 known-in : (table : List Program) (k : ℕ) (events : List Event) (o : Option ℕ) → length table ≡ k → row4 (λ prog. ltb prog k) events ≡ o →
@@ -173,12 +128,12 @@ module _ (s : List ℕ) (r : ReportLines) (ofs logs : List ℕ) (h : ReportIs s 
   report-bad line e = sym (h .read) ∙ ap (reportIn ofs logs) e
 
   module _ (m n : ℕ) (e : r ≡ Counts m n) where
-    report-read : readReport s ≡ readable (linesIn ofs m logs n)
+    report-read : readReport s ≡ readable (reportOf ofs m logs n)
     unfolding reportIn
     report-read = sym (h .read) ∙ ap (reportIn ofs logs) e
 
     pub report-few : (m ≤ 64) × (n ≤ 1024)
-    report-few = (subst (λ r. ofsIn r ≤ 64) e (h .few), subst (λ r. logsIn r ≤ 1024) e (h .fewer))
+    report-few = (subst (λ r. ofsIn r ≤ 64) e (h .fewOfs), subst (λ r. logsIn r ≤ 1024) e (h .fewEntries))
 
 -- ── rows 4 to 7, where k programs are known ──
 module _ (k : ℕ) (events : List Event) (s : List ℕ) where
@@ -207,8 +162,8 @@ module _ (k : ℕ) (events : List Event) (s : List ℕ) where
             lines4 = d;
             answered4 = f;
             read = report-read s r ofs logs h m n e;
-            few = b .0;
-            fewer = b .1;
+            fewOfs = b .0;
+            fewEntries = b .1;
             unbroken = g .2;
           })
 
@@ -222,7 +177,7 @@ record TraceHeld (ps : Programs) (t : ℕ) : Type 0 where
 module _ (ps : Programs) (events : List ℕ) (t : ℕ) (traced : TraceHeld ps t) (s ofs : List ℕ) (m : ℕ) (logs : List ℕ) (n : ℕ)
     (h : BatchHeld (ps .n) (eventsIn events t) s ofs m logs n) where
   abbrev batch : Batch
-  batch = batchOf (eventsIn events t) (linesIn ofs m logs n)
+  batch = batchOf (eventsIn events t) (reportOf ofs m logs n)
 
   abbrev table : List Program
   table = tableIn ps
@@ -236,8 +191,8 @@ module _ (ps : Programs) (events : List ℕ) (t : ℕ) (traced : TraceHeld ps t)
   whole : batchIn events t ofs m logs n ≡ batch
   whole =
       let p : min t 128 ≡ t = omega (arith, traced .events) in
-      let q : min m 64 ≡ m = omega (arith, h .few) in
-      let r : min n 1024 ≡ n = omega (arith, h .fewer) in
+      let q : min m 64 ≡ m = omega (arith, h .fewOfs) in
+      let r : min n 1024 ≡ n = omega (arith, h .fewEntries) in
       λ i. record { trace = firsts (eventAt events) (p i); ofs = firsts (ofAt ofs) (q i); log = firsts (entryAt logs) (r i) }
 
   below : (prog : ℕ) → known table prog ≡ true → prog < ps .n
@@ -245,7 +200,7 @@ module _ (ps : Programs) (events : List ℕ) (t : ℕ) (traced : TraceHeld ps t)
 
   ready : Ready (known table) batch
   ready =
-      let r = report-in-range s (linesIn ofs m logs n) (h .read) in
+      let r = report-in-range s (reportOf ofs m logs n) (h .read) in
       record {
         none-to-7 = (lines4, h .answered4, h .unbroken .row6-none, h .unbroken .row7-none);
         programs = λ prog e. omega (arith, below prog e, traced .programs);
@@ -256,7 +211,7 @@ module _ (ps : Programs) (events : List ℕ) (t : ℕ) (traced : TraceHeld ps t)
   judged : (f : Fault) (r : _) → r ≡ audited (verdict (f .row) (f .line)) m n → Judges ps events t ofs m logs n f →
       r ≡ auditedTrace table (eventsIn events t) (readReport s)
   judged f r g j =
-      let v = subst (λ b. Ready (known table) b → verdict (f .row) (f .line) ≡ firstFault (checks (ps .table) b)) whole (j (known table)) ready in
+      let v = subst (λ b. Ready (known table) b → verdict (f .row) (f .line) ≡ firstFault (from8 (machineOf (ps .table)) atStart b)) whole (j (known table)) ready in
       let w = replays-same limit (ps .table) table (known table)
       (λ (prog : ℕ). λ (e : known table prog ≡ true). same-code (ps .table) (ps .n) prog (below prog e) (traced .bounded prog (below prog e)))
       atStart batch (row4-order (known table) (eventsIn events t) .0 lines4 .1) 1 (batch .ofs) in
@@ -264,38 +219,35 @@ module _ (ps : Programs) (events : List ℕ) (t : ℕ) (traced : TraceHeld ps t)
       sym (firsts-length (ofAt ofs) m)
       ∙ matching-count (eventsIn events t) (firsts (ofAt ofs) m) (row6-matching batch .0 (h .unbroken .row6-none)) in
       let o : n ≡ length (firsts (entryAt logs) n) = sym (firsts-length (entryAt logs) n) in
-      let u = v ∙ ap (λ cs. firstFault (check 8 (row8 batch) ∷ check 9 (row9 batch) ∷ cs)) w
-      ∙ past-7 table (eventsIn events t) (linesIn ofs m logs n) (h .unbroken .row6-none) (h .unbroken .row7-none) in
+      let u = (rw w at v)
+      ∙ past-7 table (eventsIn events t) (reportOf ofs m logs n) (h .unbroken .row6-none) (h .unbroken .row7-none) in
       g ∙ (λ i. audited (u i) (c i) (o i))
-      ∙ past-5 table (eventsIn events t) (readReport s) lines4 (h .answered4) (linesIn ofs m logs n) (h .read)
+      ∙ past-5 table (eventsIn events t) (readReport s) lines4 (h .answered4) (reportOf ofs m logs n) (h .read)
 
 -- ── rows 1 to 3 ──
 module _ (table : List Program) (trace : Read (List Event)) (report : Read Report) where
   abbrev events : List Event
   events = contents [] trace
 
-  abbrev behind3 : List Check
-  behind3 =
-      check 4 (row4 (known table) events)
-      ∷ check 4 (row4Open events)
-      ∷ check 5 (badLine report)
-      ∷ behind5 table events report
+  abbrev rows1 : Verdict
+  rows1 = firstFault (checksOf (readable table) trace report)
+
+  abbrev countedAll : Verdict → Audited
+  countedAll = counted table events (lines table events report)
 
   rules-broken : (line : ℕ) → row2 table ≡ some line → refusal 2 line ≡ auditedOf (readable table) trace report
-  rules-broken line e =
-      ap (counted table events (lines table events report)) (second-holds 1 2 3 none (row2 table) (badLine trace) behind3 refl line e)
+  rules-broken line e = let v : verdict 2 line ≡ rows1 = holds verdict 2 (row2 table) _ line e in ap countedAll v
 
   module _ (d : row2 table ≡ none) where
     trace-bad : (line : ℕ) → trace ≡ unreadable line → refusal 3 line ≡ auditedOf (readable table) trace report
     trace-bad line e =
-        ap (counted table events (lines table events report))
-        (third-holds 1 2 3 none (row2 table) (badLine trace) behind3 refl d line (ap badLine e))
+        let v : verdict 3 line ≡ rows1 = holds verdict 3 (badLine trace) _ line (ap badLine e) ∙ passes verdict 2 (row2 table) _ d in
+        ap countedAll v
 
     trace-read : (x : List Event) → trace ≡ readable x → auditedTrace table x report ≡ auditedOf (readable table) trace report
     trace-read x e =
-        ap (λ y. auditedTrace table (contents [] y) report) (sym e)
-        ∙ ap (counted table events (lines table events report))
-        (none-holds 1 2 3 none (row2 table) (badLine trace) behind3 refl d (ap badLine e))
+        let v : rows4 table events report ≡ rows1 = passes verdict 3 (badLine trace) _ (ap badLine e) ∙ passes verdict 2 (row2 table) _ d in
+        ap (λ y. auditedTrace table (contents [] y) report) (sym e) ∙ ap countedAll v
 
 module _ (s trace report : List ℕ) (ps : Programs) (h : ProgramsIs s ps) where
   pub at-1 : ps .ok ≡ false → refusal 1 (ps .line) ≡ auditOf s trace report
@@ -308,11 +260,11 @@ module _ (s trace report : List ℕ) (ps : Programs) (h : ProgramsIs s ps) where
     trace-held : (l : Lines) (events : List ℕ) → TraceIs trace l events → (t : ℕ) → l ≡ Readable t → TraceHeld ps t
     trace-held l events g t d = record { programs = h .few; bounded = h .bounded; events = subst (λ l. held.linesIn l ≤ 128) d (g .few) }
 
-    module _ (r : Ruling) (e : r ≡ rulingOf (firsts (programAt (ps .table)) (min (ps .n) 16))) where
+    module _ (r : Ruling) (e : brokenLine r ≡ row2 (firsts (programAt (ps .table)) (min (ps .n) 16))) where
       ruled : brokenLine r ≡ row2 (tableIn ps)
       ruled =
           let z : min (ps .n) 16 ≡ ps .n = omega (arith, h .few) in
-          ap brokenLine (e ∙ ap (λ n. rulingOf (firsts (programAt (ps .table)) n)) z)
+          e ∙ ap (λ n. row2 (firsts (programAt (ps .table)) n)) z
 
       whole-text : auditedOf (readable (tableIn ps)) (readTrace trace) (readReport report) ≡ auditOf s trace report
       unfolding auditOf

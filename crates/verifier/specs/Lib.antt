@@ -1,6 +1,8 @@
 -- The definitions, in reading order.
-pub mod Faults
+pub mod Readings
 pub mod Accepts
+pub mod Returns
+pub mod Faults
 pub mod Printed
 -- What private functions promise
 pub mod Steps

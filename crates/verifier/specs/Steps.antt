@@ -6,8 +6,8 @@ use mathlib.Core.Option.{none}
 use mathlib.Core.Path.{_≡_}
 use lib.Dec.{eqb, ltb}
 use lib.ListN.{length, getD}
-use Rattle.text.specs.Held.{eventAt, ofAt, entryAt}
-use Rattle.text.specs.Report.{Report, readReport}
+use Rattle.text.specs.Held.{eventAt, entryAt, reportOf}
+use Rattle.text.specs.Report.{Report, noLines, readReport}
 use Rattle.text.specs.Rows.{firsts}
 use Rattle.text.specs.Text.{Read, readable, count}
 use Rattle.text.specs.Trace.{isRequest}
@@ -15,13 +15,15 @@ use Rattle.text.specs.declared.programs.Program.{Program}
 use Rattle.text.specs.declared.report.Of.{Of}
 use Rattle.text.specs.declared.trace.Event.the-variants.{Request, Response}
 use Rattle.text.specs.declared.trace.Event.{Event}
-use Rattle.model.specs.Audit.{row4, row4Open, row6, row7, reportChecks}
-use Rattle.model.specs.Batch.{Batch, named, countOf}
-use Rattle.model.specs.Checks.{check, firstFault}
-use Rattle.machine.specs.Instance.{known, machine}
+use Rattle.model.specs.Audit.{from6, from4}
+use Rattle.model.specs.Requests.{row4, row4Open, row6}
+use Rattle.model.specs.Claims.{row7}
+use Rattle.model.specs.Batch.{Batch, named, countOf, batchOf}
+use Rattle.model.specs.Checks.{firstFault, contents}
+use Rattle.machine.specs.Instance.{machineOf}
+use Rattle.text.specs.Programs.{known}
 use Rattle.machine.specs.Objects.{atStart}
-use Rattle.machine.specs.Processes.{limit}
-use Rattle.verifier.specs.Faults.{badLine, contents, batchOf, audited}
+use Rattle.verifier.specs.Faults.{audited}
 use Rattle.verifier.specs.declared.Audited.{Audited}
 use Rattle.verifier.specs.declared.audits.Checked.{Checked}
 use Rattle.verifier.specs.declared.audits.Checked.the-variants.{Refused, Counts}
@@ -75,7 +77,7 @@ pub record Without (column : List ℕ) (p i j : ℕ) : Type 0 where
 
 -- a report that stands in arrays
 abbrev pub reported : (ofs : List ℕ) (m : ℕ) (logs : List ℕ) (n : ℕ) → Batch
-reported ofs m logs n = record { trace = []; ofs = firsts (ofAt ofs) m; log = firsts (entryAt logs) n }
+reported ofs m logs n = batchOf [] (reportOf ofs m logs n)
 
 -- ── the audit from one text to the next ──
 abbrev pub refusal : (verdict line : ℕ) → Audited
@@ -85,24 +87,17 @@ refusal verdict line = record { verdict = verdict; line = line; requests = 0; op
 abbrev pub eventsIn : List ℕ → ℕ → List Event
 eventsIn events t = firsts (eventAt events) t
 
-abbrev pub linesIn : (ofs : List ℕ) (m : ℕ) (logs : List ℕ) (n : ℕ) → Report
-linesIn ofs m logs n = record { ofs = firsts (ofAt ofs) m; log = firsts (entryAt logs) n }
-
 -- the audit from row 6 on, and from row 4 on
 abbrev pub auditedReport : List Program → List Event → Report → Audited
 auditedReport table events lines =
-    audited (firstFault (reportChecks (machine limit table) atStart (batchOf events lines))) (count isRequest events) (length (lines .log))
+    audited (firstFault (from6 (machineOf table) atStart (batchOf events lines))) (count isRequest events) (length (lines .log))
 
 abbrev pub auditedTrace : List Program → List Event → Read Report → Audited
 auditedTrace table events report =
-    let lines = contents (record { ofs = []; log = [] }) report in
     audited
-    (firstFault
-    (check 4 (row4 (known table) events)
-    ∷ check 4 (row4Open events)
-    ∷ check 5 (badLine report)
-    ∷ reportChecks (machine limit table) atStart (batchOf events lines)))
-    (count isRequest events) (length (lines .log))
+    (firstFault (from4 (machineOf table) atStart (known table) events report))
+    (count isRequest events)
+    (length (contents noLines report .log))
 
 -- ── a batch as far as row 7 ──
 -- neither row 6 nor row 7 holds
@@ -113,17 +108,17 @@ pub record Unbroken (events : List Event) (lines : Report) : Type 0 where
 -- rows 6 and 7: a refusal, which is that of any programs, or the counts
 abbrev pub ReportChecked : List Event → (ofs : List ℕ) (m : ℕ) (logs : List ℕ) (n : ℕ) → Checked → Type 0
 ReportChecked events ofs m logs n (Refused row line) =
-    (table : List Program) → refusal row line ≡ auditedReport table events (linesIn ofs m logs n)
-ReportChecked events ofs m logs n (Counts p q) = (p ≡ m) × (q ≡ n) × Unbroken events (linesIn ofs m logs n)
+    (table : List Program) → refusal row line ≡ auditedReport table events (reportOf ofs m logs n)
+ReportChecked events ofs m logs n (Counts p q) = (p ≡ m) × (q ≡ n) × Unbroken events (reportOf ofs m logs n)
 
 -- a report that was read, where no row from 4 to 7 holds
 pub record BatchHeld (k : ℕ) (events : List Event) (report ofs : List ℕ) (m : ℕ) (logs : List ℕ) (n : ℕ) : Type 0 where
   pub lines4 : row4 (λ prog. ltb prog k) events ≡ none
   pub answered4 : row4Open events ≡ none
-  pub read : readReport report ≡ readable (linesIn ofs m logs n)
-  pub few : m ≤ 64
-  pub fewer : n ≤ 1024
-  pub unbroken : Unbroken events (linesIn ofs m logs n)
+  pub read : readReport report ≡ readable (reportOf ofs m logs n)
+  pub fewOfs : m ≤ 64
+  pub fewEntries : n ≤ 1024
+  pub unbroken : Unbroken events (reportOf ofs m logs n)
 
 -- rows 4 to 7: a refusal, which is that of any k programs, or a batch that stands in the arrays
 abbrev pub BatchChecked : (k : ℕ) → List Event → (report ofs logs : List ℕ) → Checked → Type 0

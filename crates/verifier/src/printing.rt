@@ -8,10 +8,11 @@ use lines::written;
 use writing::put_verdict;
 use writing::verdict_width;
 ghost use mathlib.Core.Path.{_≡_};
+ghost use Prim.Native.Nat.{_≤_};
 ghost use lib.ListN.{length};
 ghost use Rattle.lines.specs.Put.{PutIs};
 ghost use Rattle.verifier.specs.Faults.{auditOf};
-ghost use Rattle.verifier.specs.Printed.{auditedText};
+ghost use Rattle.verifier.specs.Printed.{auditedText, mostPrinted};
 
 // How long the four lines are; the words of the last two have 20 bytes.
 fn audited_width(a: Audited) -> usize
@@ -38,11 +39,13 @@ fn put_audited(a: Audited, out: &mut [u8]) -> Put
     Put::Wrote(at + written(o))
 }
 
-// The audit of three texts as it is printed: its four lines to the front of out, or nothing where out is too short.
+// The audit of three texts as it is printed: its four lines to the front of out, or nothing where out is too short, which one of
+// `mostPrinted` bytes never is.
 pub fn audit_text(programs: &[u8], trace: &[u8], report: &[u8], out: &mut [u8]) -> Put
-    ensures { λ r. ⌜ PutIs
+    ensures printed { λ r. ⌜ PutIs
         (auditedText (auditOf (now (programs .entry)) (now (trace .entry)) (now (report .entry))))
         (now (out .entry)) (now (out .exit)) r ⌝ }
+    ensures most { λ _. ⌜ length (auditedText (auditOf (now (programs .entry)) (now (trace .entry)) (now (report .entry)))) ≤ mostPrinted ⌝ }
 {
     put_audited(audit(programs, trace, report), out)
 }

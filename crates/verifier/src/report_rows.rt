@@ -12,7 +12,8 @@ ghost use lib.ListN.{length, getD};
 ghost use Rattle.text.specs.Held.{eventAt, ofAt, entryAt};
 ghost use Rattle.text.specs.Rows.{firsts};
 ghost use Rattle.text.specs.Slots.{Slots};
-ghost use Rattle.model.specs.Audit.{row6From, row7};
+ghost use Rattle.model.specs.Requests.{row6From};
+ghost use Rattle.model.specs.Claims.{row7};
 ghost use Rattle.model.specs.Batch.{claims};
 ghost use Rattle.machine.specs.Rules.{brokenLine};
 ghost use Rattle.verifier.specs.Steps.{beyond, packed, Packed, occurs, Without, reported};
@@ -24,7 +25,7 @@ pub(crate) fn row_6(events: &[u64; 640], t: usize, ofs: &[u64; 192], m: usize) -
 {
     let mut i: usize = 0;
     let mut j: usize = 0;
-    while i < t {
+    'lines: while i < t {
         match event_at(events, i) {
             Event::Request {
                 rid,
@@ -33,11 +34,11 @@ pub(crate) fn row_6(events: &[u64; 640], t: usize, ofs: &[u64; 192], m: usize) -
                 b: _,
             } => {
                 if m <= j {
-                    return Ruling::Broken(j + 1);
+                    break 'lines;
                 }
                 let x = of_at(ofs, j);
                 if x.rid != rid {
-                    return Ruling::Broken(j + 1);
+                    break 'lines;
                 }
                 j += 1;
                 i += 1;
@@ -50,6 +51,9 @@ pub(crate) fn row_6(events: &[u64; 640], t: usize, ofs: &[u64; 192], m: usize) -
                 i += 1;
             }
         }
+    }
+    if i < t {
+        return Ruling::Broken(j + 1);
     }
     if j < m {
         return Ruling::Broken(j + 1);

@@ -6,7 +6,7 @@ ghost use mathlib.Core.Path.{_≡_};
 ghost use lib.Dec.{ltb};
 ghost use Rattle.text.specs.Held.{eventAt};
 ghost use Rattle.text.specs.Rows.{firsts};
-ghost use Rattle.model.specs.Audit.{row4, row4Open};
+ghost use Rattle.model.specs.Requests.{row4, row4Open};
 ghost use Rattle.machine.specs.Rules.{brokenLine};
 ghost use Rattle.verifier.specs.Steps.{alike, hasLike, mayStand, settles};
 
@@ -100,7 +100,7 @@ fn may_stand(events: &[u64; 640], i: usize, e: Event, programs: usize) -> bool
 }
 
 // Row 4 line by line: rid used twice, unknown program, response with no open request.
-pub fn row_4(events: &[u64; 640], t: usize, programs: usize) -> Ruling
+pub(crate) fn row_4(events: &[u64; 640], t: usize, programs: usize) -> Ruling
     ensures { λ r. ⌜ brokenLine r ≡ row4 (λ prog. ltb prog programs) (firsts (eventAt (now (events .entry))) t) ⌝ }
 {
     let mut i: usize = 0;
@@ -153,15 +153,19 @@ fn settled(events: &[u64; 640], n: usize, e: Event) -> bool
 }
 
 // Row 4 behind its lines: request never answered.
-pub fn row_4_open(events: &[u64; 640], t: usize) -> Ruling
+pub(crate) fn row_4_open(events: &[u64; 640], t: usize) -> Ruling
     ensures { λ r. ⌜ brokenLine r ≡ row4Open (firsts (eventAt (now (events .entry))) t) ⌝ }
 {
     let mut i: usize = 0;
-    while i < t {
+    'lines: while i < t {
         if !settled(events, t, event_at(events, i)) {
-            return Ruling::Broken(i + 1);
+            break 'lines;
         }
         i += 1;
     }
-    Ruling::Kept
+    if i < t {
+        Ruling::Broken(i + 1)
+    } else {
+        Ruling::Kept
+    }
 }

@@ -1,4 +1,4 @@
 pub mod Texts
 pub mod TraceWriting
 pub mod ReportWriting
-pub mod VerdictLines
+pub mod VerdictTexts

@@ -10,7 +10,7 @@ use Rattle.lines.specs.LineText.{numbersText, lineText}
 use Rattle.lines.specs.declared.writer.Fields.{Fields}
 use Rattle.lines.proofs.LineTexts.{line-length}
 use Rattle.text.specs.Formats.{ofLine, logLine}
-use Rattle.text.specs.Report.{ofText, entryText, reportText}
+use Rattle.text.specs.Written.{ofText, entryText, reportText}
 use Rattle.text.specs.Held.{ofAt, entryAt, reportOf}
 use Rattle.writing.specs.Steps.{texts, reportLine, ofFields, entryFields}
 use Rattle.text.specs.declared.report.Of.{Of}

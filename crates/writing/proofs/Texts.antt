@@ -18,7 +18,7 @@ use Rattle.lines.proofs.Writing.{
   writing-done,
   writing-length,
 }
-use Rattle.text.specs.Text.{linesText}
+use Rattle.text.specs.Written.{linesText}
 use Rattle.text.specs.Rows.{firsts}
 use Rattle.writing.specs.Steps.{textsFrom, texts}
 

@@ -10,7 +10,7 @@ use Rattle.lines.specs.declared.writer.Fields.{Fields}
 use Rattle.lines.specs.declared.writer.Put.{Put}
 use Rattle.lines.proofs.LineTexts.{line-length}
 use Rattle.text.specs.Formats.{requestLine, responseLine}
-use Rattle.text.specs.Trace.{eventText, traceText}
+use Rattle.text.specs.Written.{eventText, traceText}
 use Rattle.text.specs.Rows.{firsts}
 use Rattle.text.specs.Held.{eventAt}
 use Rattle.writing.specs.Steps.{texts, eventLine, eventFields}

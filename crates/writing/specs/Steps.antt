@@ -4,8 +4,7 @@ use mathlib.Core.List.{List, [], _∷_, _++_}
 use mathlib.Core.Bool.{cond}
 use lib.Dec.{ltb}
 use Rattle.lines.specs.declared.writer.Fields.{Fields}
-use Rattle.text.specs.Trace.{eventText}
-use Rattle.text.specs.Report.{ofText, entryText}
+use Rattle.text.specs.Written.{eventText, ofText, entryText}
 use Rattle.text.specs.Held.{eventAt, ofAt, entryAt}
 use Rattle.text.specs.declared.trace.Event.{Event}
 use Rattle.text.specs.declared.trace.Event.the-variants.{Request, Response}

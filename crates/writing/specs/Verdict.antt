@@ -1,4 +1,4 @@
--- The verdict lines, which both programs print first.
+-- The verdict with its line, which both programs print first.
 use Prim.Native.Nat.{ℕ}
 use mathlib.Core.List.{List, [], _∷_, _++_}
 use Rattle.lines.specs.Bytes.{bytes}

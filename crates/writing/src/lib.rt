@@ -1,4 +1,4 @@
-// A trace and a report from the arrays of records, and the verdict lines, written to the front of a lent buffer.
+// A trace and a report from the arrays of records, and the verdict with its line, written to the front of a lent buffer.
 mod reports;
 mod traces;
 mod verdicts;

@@ -3,7 +3,7 @@ ghost use mathlib.Core.Path.{_≡_};
 ghost use Prim.Native.Nat.{_+_, _≤_, min};
 ghost use lib.ListN.{length};
 ghost use Rattle.lines.specs.Put.{front, PutIs};
-ghost use Rattle.text.specs.Report.{reportText};
+ghost use Rattle.text.specs.Written.{reportText};
 ghost use Rattle.text.specs.Held.{reportOf};
 ghost use Rattle.writing.specs.Steps.{texts, reportLine, ofFields, entryFields};
 use lines::Fields;

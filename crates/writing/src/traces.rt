@@ -3,7 +3,7 @@ ghost use mathlib.Core.Path.{_≡_};
 ghost use Prim.Native.Nat.{_≤_, min};
 ghost use lib.ListN.{length};
 ghost use Rattle.lines.specs.Put.{front, PutIs};
-ghost use Rattle.text.specs.Trace.{eventText, traceText};
+ghost use Rattle.text.specs.Written.{eventText, traceText};
 ghost use Rattle.text.specs.Rows.{firsts};
 ghost use Rattle.text.specs.Held.{eventAt};
 ghost use Rattle.writing.specs.Steps.{texts, eventLine, eventFields};

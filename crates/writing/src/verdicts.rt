@@ -1,4 +1,4 @@
-// The verdict lines, which both programs print first.
+// The verdict with its line, which both programs print first.
 use lines::Put;
 use lines::number_width;
 use lines::put_number_line;

@@ -2,7 +2,7 @@
 use Prim.Native.Nat.{_-_, _≤_}
 use mathlib.Core.Path.{sym, ap, _∙_}
 use native.Mathlib.Omega.{arith}
-use Rattle.text.specs.Report.{entryNumbers}
+use Rattle.text.specs.Written.{entryNumbers}
 use Rattle.text.specs.Rows.{withRow}
 use Rattle.host.specs.Steps.{Picked}
 use Rattle.host.proofs.Picking.{none-yet, own-fits, own-joins, other-stays, all-seen}

@@ -4,7 +4,7 @@ use lib.ListN.{length-replicate}
 use lib.Seq.{length-take-le}
 use mathlib.Core.Path.{sym}
 use Rattle.host.proofs.Fronts.{trace-room, report-room}
-use Rattle.host.proofs.PrintedTexts.{printed-put}
+use Rattle.host.proofs.PrintedTexts.{printed-put, printed-most}
 use borrow.Author.Needs.{needs}
 use Rattle.host.proofs.printing.record_text.Statement.{statement}
 use Rattle.host.proofs.printing.record_text.Tie as tie
@@ -24,8 +24,10 @@ slice-aggregate-put-recorded-2 c = sym (length-take-le _ _ (array-share-prefix-r
 returns : tie.Need-returns
 returns c =
     let r = c .before .before .before .before .before .before .before .before .«record» in
-    let size = length-replicate {A = ℕ} 65535 0 in
-    printed-put _ _ _ _ _ _ _ size size (r .ensures .0) _ _ _ (c .before .before .put-recorded .ensures)
+    let size = length-replicate {A = ℕ} 65535 0 in (
+      printed-put _ _ _ _ _ _ _ size size (r .ensures .0) _ _ _ (c .before .before .put-recorded .ensures),
+      printed-most _ _ _ _ _ _ _ size size (r .ensures .0) (search needs) (search needs),
+    )
 
 pub record-text-spec : {M : Type 1} → statement M
 record-text-spec =

@@ -1,93 +1,60 @@
--- `check_rules` meets its contract. Both invariants: the definition at what is left gives what it gives for all; a program has 65 lines at
--- most, so that the line does not wrap.
-use Prim.Native.Nat.{_≤_, _+_, _-_, _*_}
-use mathlib.Core.Path.{_≡_, refl, sym, ap, _∙_}
-use mathlib.Core.Bool.{true}
+-- `check_rules` meets its contract: the invariants are those of the scan.
+use Prim.Native.Nat.{_-_}
+use mathlib.Core.Path.{sym, ap, _∙_}
+use mathlib.Core.Option.{some}
 use mathlib.Core.Logic.{⊎-elim}
 use native.Mathlib.Omega.{arith}
-use lib.ListN.{getD, take, drop}
 use borrow.Author.Tests.{not-false, not-true}
-use Rattle.text.specs.declared.programs.Program.{Program}
-use Rattle.text.specs.Held.{noProgram, programAt}
-use Rattle.text.specs.Rows.{firsts}
-use Rattle.machine.specs.declared.rules.Ruling.the-variants.{Broken}
-use Rattle.machine.specs.Rules.{headKeeps, instructions, programs, ruling}
-use Rattle.machine.proofs.Scan.{room, next-line, bad-line, bad-head, bad-body, next-program, no-more}
+use Rattle.machine.proofs.Scan.{
+  AtProgram,
+  AtInstruction,
+  scan-start,
+  program-kept,
+  program-broken,
+  programs-end,
+  instruction-kept,
+  instruction-broken,
+  instructions-end,
+}
 use Rattle.machine.proofs.rules.check_rules.Statement.{statement}
 use Rattle.machine.proofs.rules.check_rules.Tie as tie
 
 abbrev Inv-loop : tie.InvT-loop
-Inv-loop ps count line₀ k p n j₀ line j =
-    (j ≤ n) × (line ≤ line₀ + j) × (instructions (n - j) (take n (p .code)) n j line ≡ instructions n (take n (p .code)) n 0 line₀)
+Inv-loop ps count line₀ k p n j₀ line j = AtInstruction (ps .table) count k j line
 
 abbrev μ-loop : tie.MeasureT-loop
 μ-loop ps count line₀ k p n j₀ line j = n - j
 
 abbrev Inv-table : tie.InvT-table
-Inv-table ps count line₀ k₀ line k =
-    (k ≤ count) × (line ≤ 65 * k + 1)
-    × (programs (drop k (firsts (programAt (ps .table)) count)) k line ≡ programs (firsts (programAt (ps .table)) count) 0 1)
+Inv-table ps count line₀ k₀ line k = AtProgram (ps .table) count k line
 
 abbrev μ-table : tie.MeasureT-table
 μ-table ps count line₀ k₀ line k = count - k
 
--- the program that is looked at, past its `program` line
-abbrev program : tie.Else1 Inv-loop μ-loop Inv-table μ-table → Program
-program c =
-    let at-table = c .before .before .before .before in
-    let at-start = at-table .before .before in
-    getD (at-start .args .t1 .table) (at-table .table .k) noProgram
-
-head : (c : tie.Else1 Inv-loop μ-loop Inv-table μ-table)
-    → headKeeps (program c .number) (program c .n) (c .before .before .before .before .table .k) ≡ true
-head c = sym (c .before .head-keeps .ensures) ∙ not-false _ (c .if1 .left)
-
-few : (c : tie.Else1 Inv-loop μ-loop Inv-table μ-table) → program c .n ≤ 64
-few c = room (program c .number) (program c .n) (c .before .before .before .before .table .k) (head c)
-
-table-holds : tie.Need-table-holds Inv-loop μ-loop Inv-table μ-table
-table-holds c = (omega arith, omega arith, refl)
-
 loop-holds : tie.Need-loop-holds Inv-loop μ-loop Inv-table μ-table
 loop-holds c =
-    let z : program c .n - 0 ≡ program c .n = omega arith in
-    (omega arith, omega arith, rw z)
+    program-kept (c .before .before .before .before .table .inv) (c .before .before .before .table-test .taken)
+    (sym (c .before .head-keeps .ensures) ∙ not-false _ (c .if1 .left))
 
 loop-again : tie.Need-loop-again Inv-loop μ-loop Inv-table μ-table
-loop-again c = (
-  omega arith,
-  omega arith,
-  sym (next-line _ _ _ _ (omega arith) (sym (c .before .body-keeps .ensures) ∙ not-false _ (c .if2 .left)))
-      ∙ c .before .before .before .before .loop .inv .2,
-)
+loop-again c =
+    instruction-kept (c .before .before .before .before .loop .inv) (c .before .before .before .loop-test .taken)
+    (sym (c .before .body-keeps .ensures) ∙ not-false _ (c .if2 .left))
 
 table-again : tie.Need-table-again Inv-loop μ-loop Inv-table μ-table
-unfolding instructions
-table-again c =
-    let z : program (c .before .before) .n - c .before .loop .j ≡ 0 = omega arith in
-    let s = c .before .before .before .before .before .before in (
-      omega arith,
-      omega (arith, few (c .before .before)),
-      sym (next-program (s .before .before .args .t1 .table) (s .before .least .result) (s .table .k) (s .table .line) (omega arith)
-          (head (c .before .before)) _ (rw z at (sym (c .before .loop .inv .2))))
-          ∙ s .table .inv .2,
-    )
+table-again c = instructions-end (c .before .loop .inv) (c .loop-test .left)
 
 returns : tie.Need-returns Inv-loop μ-loop Inv-table μ-table
 returns c =
-    let all = c .before .before .table .inv .2 in
     rw (← c .before .before .before .least .ensures)
     (⊎-elim (λ w. absurd (omega arith))
     (⊎-elim
-    (λ w. ap Broken (w .4) ∙ ap ruling (sym (bad-head _ _ _ _ (w .0 .taken) (sym (w .2 .ensures) ∙ not-true _ (w .3 .taken))) ∙ all))
-    (λ w. ap Broken (w .9) ∙ ap ruling (sym (bad-body _ _ _ _ (w .0 .taken) (sym (w .2 .ensures) ∙ not-false _ (w .3 .left)) _
-    (sym (w .4 .inv .2) ∙ bad-line _ _ _ _ (w .5 .taken) (sym (w .7 .ensures) ∙ not-true _ (w .8 .taken)))) ∙ all)))
+    (λ w. ap some (w .4) ∙ program-broken (c .before .before .table .inv) (w .0 .taken) (sym (w .2 .ensures) ∙ not-true _ (w .3 .taken)))
+    (λ w. ap some (w .9) ∙ instruction-broken (w .4 .inv) (w .5 .taken) (sym (w .7 .ensures) ∙ not-true _ (w .8 .taken))))
     (c .before .table-test .came))
 
 returns-2 : tie.Need-returns-2 Inv-loop μ-loop Inv-table μ-table
-returns-2 c =
-    let none = no-more _ _ _ _ (c .if3 .left) in
-    rw (← c .before .before .before .least .ensures) (ap ruling (sym none ∙ c .before .before .table .inv .2))
+returns-2 c = rw (← c .before .before .before .least .ensures) (programs-end (c .before .before .table .inv) (c .if3 .left))
 
 pub check-rules-spec : {M : Type 1} → statement M
 check-rules-spec =
@@ -98,17 +65,17 @@ check-rules-spec =
     Inv-table
     μ-table
     (λ c κs. tt)
-    table-holds
+    (λ c. scan-start)
     (λ c. omega arith)
     (λ c. omega arith)
     (λ c κs. tt)
     (λ c. omega arith)
     loop-holds
-    (λ c. omega (arith, few (c .before .before)))
-    (λ c. omega (arith, few (c .before .before)))
+    (λ c. omega arith)
+    (λ c. omega arith)
     (λ c κs. omega arith)
-    (λ c. omega (arith, few (c .before .before .before .before .before)))
-    (λ c. omega (arith, few (c .before .before .before .before .before)))
+    (λ c. omega arith)
+    (λ c. omega arith)
     (λ c. omega arith)
     loop-again
     (λ c. omega arith)

@@ -6,7 +6,7 @@ use native.Mathlib.Omega.{arith}
 use borrow.Author.Tests.{not-true, not-false}
 use Rattle.text.specs.Held.{ofAt, entryAt}
 use Rattle.text.specs.Rows.{firsts}
-use Rattle.model.specs.Audit.{bad8}
+use Rattle.model.specs.Claims.{bad8}
 use Rattle.model.proofs.LineScans.{Scanned, scan-start, scan-end}
 use Rattle.replay.proofs.Counting.{Counting, count-start, count-on, count-not, count-end, counts-more, counts-all}
 use borrow.Author.Needs.{needs}

@@ -35,10 +35,10 @@ loop-holds : tie.Need-loop-holds Inv-loop μ-loop
 loop-holds c = held-start _ _ _ (search needs) (search needs) (search needs)
 
 add-line : tie.Need-add-line Inv-loop μ-loop
-add-line c = let r = c .before .loop .inv in omega (arith, r .few, r .fewer)
+add-line c = let r = c .before .loop .inv in omega (arith, r .fewOfs, r .fewEntries)
 
 add-line-2 : tie.Need-add-line-2 Inv-loop μ-loop
-add-line-2 c = let r = c .before .loop .inv in omega (arith, r .few, r .fewer)
+add-line-2 c = let r = c .before .loop .inv in omega (arith, r .fewOfs, r .fewEntries)
 
 returns-2 : tie.Need-returns-2 Inv-loop μ-loop
 returns-2 c =
@@ -59,7 +59,7 @@ returns-4 c =
 add-m : tie.Need-add-m Inv-loop μ-loop
 add-m c =
     let r = c .before .before .before .before .before .before .before .before .before .before .before .before .loop .inv in
-    omega (arith, r .few, r .fewer)
+    omega (arith, r .fewOfs, r .fewEntries)
 
 loop-less : tie.Need-loop-less Inv-loop μ-loop
 loop-less c =
@@ -90,7 +90,7 @@ returns-6 c =
 add-n : tie.Need-add-n Inv-loop μ-loop
 add-n c =
     let r = c .before .before .before .before .before .before .before .before .before .before .before .loop .inv in
-    omega (arith, r .few, r .fewer)
+    omega (arith, r .fewOfs, r .fewEntries)
 
 loop-less-2 : tie.Need-loop-less-2 Inv-loop μ-loop
 loop-less-2 c =

@@ -35,7 +35,7 @@ loop-holds : tie.Need-loop-holds Inv-loop μ-loop
 loop-holds c = held-start _ _ _ (search needs) (search needs) (search needs)
 
 add-line : tie.Need-add-line Inv-loop μ-loop
-add-line c = let r = c .before .loop .inv in omega (arith, r .few, r .bytes, r .reading .inside, r .reading .short)
+add-line c = let r = c .before .loop .inv in omega (arith, r .fewArrivals, r .bytes, r .reading .inside, r .reading .short)
 
 returns-2 : tie.Need-returns-2 Inv-loop μ-loop
 returns-2 c =
@@ -50,12 +50,12 @@ returns-3 c =
 cast-put-move : tie.Need-cast-put-move Inv-loop μ-loop
 cast-put-move c =
     let r = c .before .before .before .before .before .before .before .before .before .before .before .before .loop .inv in
-    omega (arith, r .few, r .bytes, r .reading .inside, r .reading .short)
+    omega (arith, r .fewArrivals, r .bytes, r .reading .inside, r .reading .short)
 
 add-put-move : tie.Need-add-put-move Inv-loop μ-loop
 add-put-move c =
     let r = c .before .before .before .before .before .before .before .before .before .before .before .before .loop .inv in
-    omega (arith, r .few, r .bytes, r .reading .inside, r .reading .short)
+    omega (arith, r .fewArrivals, r .bytes, r .reading .inside, r .reading .short)
 
 put-move-requires : tie.Need-put-move-requires Inv-loop μ-loop
 put-move-requires c κs =
@@ -66,12 +66,12 @@ put-move-requires c κs =
 add-m : tie.Need-add-m Inv-loop μ-loop
 add-m c =
     let r = c .before .before .before .before .before .before .before .before .before .before .before .before .before .loop .inv in
-    omega (arith, r .few, r .bytes, r .reading .inside, r .reading .short)
+    omega (arith, r .fewArrivals, r .bytes, r .reading .inside, r .reading .short)
 
 add-n : tie.Need-add-n Inv-loop μ-loop
 add-n c =
     let r = c .before .before .before .before .before .before .before .before .before .before .before .before .before .loop .inv in
-    omega (arith, r .few, r .bytes, r .reading .inside, r .reading .short)
+    omega (arith, r .fewArrivals, r .bytes, r .reading .inside, r .reading .short)
 
 loop-less : tie.Need-loop-less Inv-loop μ-loop
 loop-less c =
@@ -104,7 +104,7 @@ put-turn-requires c κs =
 add-n-2 : tie.Need-add-n-2 Inv-loop μ-loop
 add-n-2 c =
     let r = c .before .before .before .before .before .before .before .before .before .before .loop .inv in
-    omega (arith, r .few, r .bytes, r .reading .inside, r .reading .short)
+    omega (arith, r .fewArrivals, r .bytes, r .reading .inside, r .reading .short)
 
 loop-less-2 : tie.Need-loop-less-2 Inv-loop μ-loop
 loop-less-2 c =

@@ -34,10 +34,10 @@ loop-holds : tie.Need-loop-holds Inv-loop μ-loop
 loop-holds c = held-start _ _ (search needs) (search needs)
 
 add-line : tie.Need-add-line Inv-loop μ-loop
-add-line c = let r = c .before .loop .inv in omega (arith, r .few, r .fewer)
+add-line c = let r = c .before .loop .inv in omega (arith, r .fewRequests, r .fewResponses)
 
 add-line-2 : tie.Need-add-line-2 Inv-loop μ-loop
-add-line-2 c = let r = c .before .loop .inv in omega (arith, r .few, r .fewer)
+add-line-2 c = let r = c .before .loop .inv in omega (arith, r .fewRequests, r .fewResponses)
 
 returns-2 : tie.Need-returns-2 Inv-loop μ-loop
 returns-2 c =
@@ -52,17 +52,17 @@ returns-3 c =
 add-put-event : tie.Need-add-put-event Inv-loop μ-loop
 add-put-event c =
     let r = c .before .before .before .before .before .before .before .before .before .loop .inv in
-    omega (arith, r .few, r .fewer)
+    omega (arith, r .fewRequests, r .fewResponses)
 
 put-event-requires : tie.Need-put-event-requires Inv-loop μ-loop
 put-event-requires c κs =
     let r = c .before .before .before .before .before .before .before .before .before .before .loop .inv in
-    omega (arith, r .few, r .fewer)
+    omega (arith, r .fewRequests, r .fewResponses)
 
 add-m : tie.Need-add-m Inv-loop μ-loop
 add-m c =
     let r = c .before .before .before .before .before .before .before .before .before .before .before .loop .inv in
-    omega (arith, r .few, r .fewer)
+    omega (arith, r .fewRequests, r .fewResponses)
 
 loop-less : tie.Need-loop-less Inv-loop μ-loop
 loop-less c =
@@ -92,17 +92,17 @@ returns-5 c =
 add-put-event-2 : tie.Need-add-put-event-2 Inv-loop μ-loop
 add-put-event-2 c =
     let r = c .before .before .before .before .before .before .before .before .before .loop .inv in
-    omega (arith, r .few, r .fewer)
+    omega (arith, r .fewRequests, r .fewResponses)
 
 put-event-requires-2 : tie.Need-put-event-requires-2 Inv-loop μ-loop
 put-event-requires-2 c κs =
     let r = c .before .before .before .before .before .before .before .before .before .before .loop .inv in
-    omega (arith, r .few, r .fewer)
+    omega (arith, r .fewRequests, r .fewResponses)
 
 add-n : tie.Need-add-n Inv-loop μ-loop
 add-n c =
     let r = c .before .before .before .before .before .before .before .before .before .before .before .loop .inv in
-    omega (arith, r .few, r .fewer)
+    omega (arith, r .fewRequests, r .fewResponses)
 
 loop-less-2 : tie.Need-loop-less-2 Inv-loop μ-loop
 loop-less-2 c =
@@ -125,7 +125,7 @@ returns-6 c =
     (c .enum-told .given .1)
 
 add-t10 : tie.Need-add-t10 Inv-loop μ-loop
-add-t10 c = let r = c .before .loop .inv in omega (arith, r .few, r .fewer)
+add-t10 c = let r = c .before .loop .inv in omega (arith, r .fewRequests, r .fewResponses)
 
 returns-7 : tie.Need-returns-7 Inv-loop μ-loop
 returns-7 c = held-done (c .before .loop .inv) (search needs)

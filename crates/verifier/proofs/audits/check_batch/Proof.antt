@@ -1,6 +1,7 @@
 -- `check_batch` meets its contract.
 use Rattle.verifier.specs.Steps.{eventsIn}
-use Rattle.verifier.proofs.Verdicts.{broken, kept, refused-4, refused-4-open, refused-5, report-few, past-report}
+use Rattle.machine.proofs.Rulings.{broken, kept}
+use Rattle.verifier.proofs.Verdicts.{refused-4, refused-4-open, refused-5, report-few, past-report}
 use borrow.Author.Needs.{needs}
 use Rattle.verifier.proofs.audits.check_batch.Statement.{statement}
 use Rattle.verifier.proofs.audits.check_batch.Tie as tie

@@ -6,7 +6,7 @@ use borrow.Author.Tests.{not-true, not-false}
 use mathlib.Core.Path.{sym, _∙_}
 use lib.Dec.{ltb}
 use Rattle.text.specs.Held.{eventAt}
-use Rattle.model.specs.Audit.{bad4}
+use Rattle.model.specs.Requests.{bad4}
 use Rattle.verifier.specs.Steps.{alike}
 use Rattle.model.proofs.LineScans.{Scanned, scan-start, scan-end}
 use Rattle.verifier.proofs.Searches.{Passed, pass-start, pass-on, pass-hit, pass-end}

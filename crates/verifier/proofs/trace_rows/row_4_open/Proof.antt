@@ -2,51 +2,55 @@
 use Prim.Native.Nat.{_-_}
 use mathlib.Core.Path.{sym, ap, _∙_}
 use mathlib.Core.Bool.{not}
+use mathlib.Core.Logic.{⊎-elim}
+use native.Mathlib.Omega.{arith}
 use Rattle.text.specs.Held.{eventAt}
 use Rattle.text.specs.Rows.{firsts}
-use Rattle.model.specs.Audit.{unanswered}
+use Rattle.model.specs.Requests.{unanswered}
 use Rattle.model.proofs.LineScans.{Scanned, scan-start, scan-on, scan-bad, scan-end}
 use Rattle.verifier.proofs.TraceScans.{settled-event}
 use borrow.Author.Needs.{needs}
 use Rattle.verifier.proofs.trace_rows.row_4_open.Statement.{statement}
 use Rattle.verifier.proofs.trace_rows.row_4_open.Tie as tie
 
-abbrev Inv-loop : tie.InvT-loop
-Inv-loop events t i₀ i = Scanned (unanswered (firsts (eventAt events) t)) (eventAt events) 1 t i
+abbrev Inv-lines : tie.InvT-lines
+Inv-lines events t i₀ i = Scanned (unanswered (firsts (eventAt events) t)) (eventAt events) 1 t i
 
-abbrev μ-loop : tie.MeasureT-loop
-μ-loop events t i₀ i = t - i
+abbrev μ-lines : tie.MeasureT-lines
+μ-lines events t i₀ i = t - i
 
-loop-holds : tie.Need-loop-holds Inv-loop μ-loop
-loop-holds c = scan-start
+lines-holds : tie.Need-lines-holds Inv-lines μ-lines
+lines-holds c = scan-start
 
-returns : tie.Need-returns Inv-loop μ-loop
-returns c =
-    let at-loop = c .before .before .before .before in
-    scan-bad (at-loop .loop .inv) (search needs) _ (search needs)
-    (settled-event _ _ _ _ (c .before .before .event-at .ensures) ∙ ap not (sym (c .before .settled .ensures)) ∙ c .if1 .taken)
-
-loop-again : tie.Need-loop-again Inv-loop μ-loop
-loop-again c =
-    let at-loop = c .before .before .before .before in
-    scan-on (at-loop .loop .inv) (search needs) (settled-event _ _ _ _ (c .before .before .event-at .ensures) ∙ ap not
+lines-again : tie.Need-lines-again Inv-lines μ-lines
+lines-again c =
+    let at-lines = c .before .before .before .before in
+    scan-on (at-lines .lines .inv) (search needs) (settled-event _ _ _ _ (c .before .before .event-at .ensures) ∙ ap not
     (sym (c .before .settled .ensures)) ∙ c .if1 .left)
 
-returns-2 : tie.Need-returns-2 Inv-loop μ-loop
-returns-2 c = scan-end (c .before .loop .inv) (search needs)
+returns : tie.Need-returns Inv-lines μ-lines
+returns c =
+    let s = c .before .before .lines .inv in
+    ⊎-elim (λ w. absurd (omega arith))
+    (λ w. scan-bad s (w .0 .taken) _ (search needs)
+    (settled-event _ _ _ _ (w .1 .ensures) ∙ ap not (sym (w .2 .ensures)) ∙ w .3 .taken))
+    (c .before .lines-test .came)
+
+returns-2 : tie.Need-returns-2 Inv-lines μ-lines
+returns-2 c = scan-end (c .before .before .lines .inv) (search needs)
 
 pub row-4-open-spec : {M : Type 1} → statement M
 row-4-open-spec =
     tie.close
     (tie.spec
-    Inv-loop
-    μ-loop
-    loop-holds
+    Inv-lines
+    μ-lines
+    lines-holds
     (λ c κs. search needs)
     (λ c κs. search needs)
+    (λ c. search needs)
+    (λ c. search needs)
+    lines-again
     (λ c. search needs)
     returns
-    (λ c. search needs)
-    (λ c. search needs)
-    loop-again
     returns-2)

@@ -2,7 +2,7 @@
 use Prim.Native.Nat.{_-_}
 use mathlib.Core.Path.{ap}
 use native.Mathlib.Omega.{arith}
-use Rattle.text.specs.Trace.{eventText}
+use Rattle.text.specs.Written.{eventText}
 use Rattle.writing.specs.Steps.{eventLine}
 use Rattle.writing.proofs.Texts.{Filling, filling-start, filling-room, filling-fits, filling-next, filling-length, filling-done}
 use borrow.Author.Needs.{needs}

@@ -3,7 +3,7 @@ use Prim.Native.Nat.{_-_}
 use mathlib.Core.Path.{_∙_, ap}
 use native.Mathlib.Omega.{arith}
 use lib.ListN.{length}
-use Rattle.text.specs.Trace.{eventText}
+use Rattle.text.specs.Written.{eventText}
 use Rattle.writing.specs.Steps.{eventLine}
 use Rattle.writing.proofs.Texts.{Measuring, measuring-start, measuring-next, measuring-done}
 use borrow.Author.Needs.{needs}

@@ -5,7 +5,7 @@ use native.Mathlib.Omega.{arith}
 use Rattle.lines.proofs.Puts.{put-short, put-fits}
 use Rattle.lines.proofs.Writing.{Writing, lent, writing-start, writing-as, writing-room, writing-done, writing-put-first, writing-put}
 use Rattle.writing.specs.Verdict.{verdictText}
-use Rattle.writing.proofs.VerdictLines.{line2, verdict-pieces}
+use Rattle.writing.proofs.VerdictTexts.{line2, verdict-pieces}
 use borrow.Author.Needs.{needs}
 use Rattle.writing.proofs.verdicts.put_verdict.Statement.{statement}
 use Rattle.writing.proofs.verdicts.put_verdict.Tie as tie

@@ -1,6 +1,6 @@
 -- `verdict_width` meets its contract.
 use native.Mathlib.Omega.{arith}
-use Rattle.writing.proofs.VerdictLines.{verdict-length}
+use Rattle.writing.proofs.VerdictTexts.{verdict-length}
 use borrow.Author.Needs.{needs}
 use Rattle.writing.proofs.verdicts.verdict_width.Statement.{statement}
 use Rattle.writing.proofs.verdicts.verdict_width.Tie as tie
