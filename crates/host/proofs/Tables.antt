@@ -1,30 +1,31 @@
 -- Laws of the program table in numbers: a request goes on by the instructions that stand in it, and a schedule runs by it as by the
 -- programs that were read.
 use Prim.Native.Nat.{ℕ, _+_, _%_, _≤_, _<_}
+use mathlib.Core.Bool.{true}
 use mathlib.Core.List.{List, [], _∷_}
 use mathlib.Core.Path.{_≡_, sym, ap, _∙_}
 use native.Mathlib.Omega.{arith}
 use lib.Dec.{ltb}
-use lib.ListN.{length, getD, set, length-set, List·getD-eq-default}
-use borrow.Author.Tests.{ltb-true, ltb-false}
+use lib.ListN.{length, getD, set, length-set}
+use borrow.Author.Tests.{ltb-true}
 use Rattle.text.specs.Formats.{mostEntries}
 use Rattle.text.specs.Held.{Bounded, tableIn}
-use Rattle.text.specs.Programs.{noInstr, noProgram, instrFrom}
+use Rattle.text.specs.Programs.{noInstr, noProgram, known, instrFrom}
 use Rattle.text.specs.declared.programs.Instr.{Instr}
 use Rattle.text.specs.declared.programs.Program.{Program}
 use Rattle.text.specs.declared.programs.Programs.{Programs}
 use Rattle.text.specs.declared.schedule.Move.{Move}
 use Rattle.text.proofs.RowLaws.{firsts-length, firsts-at, set-next}
-use Rattle.ordering.proofs.Basics.{byBool}
 use Rattle.model.specs.Host.{recorded, andThen}
-use Rattle.machine.specs.Instance.{codeAt}
+use Rattle.machine.specs.Instance.{codeAt, gone, machineOf}
 use Rattle.machine.specs.Instructions.{effect, effectOf}
 use Rattle.machine.specs.Objects.{atStart}
 use Rattle.machine.specs.Processes.{advanced, limit, instrAt, stopAt, advanceOf}
 use Rattle.machine.specs.declared.instructions.Act.{Act}
 use Rattle.machine.specs.declared.processes.Next.the-variants.{Cut}
 use Rattle.machine.proofs.Steps.{follow, one, cut}
-use Rattle.machine.proofs.Tables.{same-code, machine-same}
+use Rattle.machine.proofs.SameHosts as both
+use Rattle.machine.proofs.Tables.{same-code, Same, tables-agree}
 use Rattle.host.specs.Moves.{pathless}
 use Rattle.host.specs.Recorded.{textsOf, fitted}
 use Rattle.host.specs.Runs.{recordedMoves}
@@ -118,25 +119,19 @@ module _ (ps : Programs) (table : Table) (few : ps .n ≤ 16) (bounded : (k : �
   u-length : length u ≡ ps .n
   u-length = firsts-length _ (ps .n)
 
-  same : (prog at : ℕ) → instrAt (codeAt t prog) at ≡ instrAt (codeAt u prog) at
-  same prog at =
-      byBool (ltb prog (ps .n))
-      (λ b.
-      let h = ltb-true prog (ps .n) b in
+  same : (prog : ℕ) → known t prog ≡ true → Same limit t u prog
+  same prog b at =
+      let h : prog < ps .n = omega (arith, ltb-true prog (length t) b, t-length) in
       let k : prog % 16 ≡ prog = omega (arith, h, few) in
       ap (λ code. instrAt code at) (code-held table (ps .n) prog (omega (arith, h, t-length)))
       ∙ instr-held table prog at ∙ ap (λ k. instrFrom (getD (getD table k []) (at % 64) [])) k ∙ laid prog h at
-      ∙ same-code (ps .table) (ps .n) prog h (bounded prog h) at)
-      (λ b.
-      let h = ltb-false prog (ps .n) b in
-      ap (λ p. instrAt (p .code) at)
-      (List·getD-eq-default t noProgram {n = prog} (omega (arith, h, t-length))
-      ∙ sym (List·getD-eq-default u noProgram {n = prog} (omega (arith, h, u-length)))))
+      ∙ same-code (ps .table) (ps .n) prog h (bounded prog h) at
 
   -- the run of a schedule, and what is written of it
   pub recorded-same : (ms : List Move) (m n : ℕ) → recordedMoves u ms m n ≡ recordedMoves t ms m n
-  unfolding machine-same
   recorded-same ms m n =
+      let a = tables-agree limit t u (known t) same in
       let e = t-length ∙ sym u-length in
-      sym (λ i. andThen (recorded (machine-same limit t u same i) (λ prog. ltb prog (e i)) mostEntries 16 atStart ms)
-      (λ b. fitted m n (textsOf b)))
+      let r = both.recorded-same (gone limit t) (gone limit u) (known t) a mostEntries 16 ms atStart
+      ∙ ap (λ k. recorded (machineOf u) (λ prog. ltb prog k) mostEntries 16 atStart ms) e in
+      sym (ap (λ x. andThen x (λ b. fitted m n (textsOf b))) r)

@@ -11,11 +11,13 @@ use Rattle.text.specs.declared.report.Of.{Of}
 use Rattle.text.specs.declared.report.Op.{Op}
 use Rattle.text.specs.declared.trace.Event.the-variants.{Request, Response}
 use Rattle.text.specs.declared.trace.Event.{Event}
+use Rattle.text.specs.Report.{Report}
+use Rattle.text.specs.Text.{readable}
 use Rattle.ordering.specs.Lists.{All}
-use Rattle.model.specs.Audit.{bad10, bad11, bad12, replayChecks, audit}
+use Rattle.model.specs.Audit.{from4, bad10, bad11, bad12, replayChecks, audit}
 use Rattle.model.specs.Requests.{row4}
 use Rattle.model.specs.Batch.{Batch, claims, countOf, firstOf}
-use Rattle.model.specs.Checks.{check, breaks}
+use Rattle.model.specs.Checks.{firstFault, check, breaks}
 use Rattle.model.specs.Demand.{Demand3}
 use Rattle.model.specs.Machine.{Next, op, stop, Machine, applied}
 use Rattle.model.specs.Replay.{
@@ -40,6 +42,7 @@ use Rattle.model.specs.Replay.{
   replayFrom,
   outcome,
 }
+use Rattle.model.proofs.Audited.{audit-rows}
 use Rattle.model.proofs.Main.{audit-exactly}
 use Rattle.model.proofs.Trace.{KnownIn, row4-order}
 use Rattle.machine.specs.Instance.{Process, nextOf, resumedWith, machineBy}
@@ -152,10 +155,14 @@ module _ (gone gone′ : Process → Advanced) where
 
       -- a batch with an unknown program is refused at row 4
       pub audit-same : audit M opening known b ≡ audit N opening known b
-      unfolding audit
-      audit-same = pick (row4 known (b .trace)) refl
+      audit-same =
+          sym (audit-rows M opening known (b .trace) report) ∙ pick (row4 known (b .trace)) refl ∙ audit-rows N opening known (b .trace) report
         where
-          pick : (o : Option ℕ) → row4 known (b .trace) ≡ o → audit M opening known b ≡ audit N opening known b
+          report : Report
+          report = record { ofs = b .ofs; log = b .log }
+
+          pick : (o : Option ℕ) → row4 known (b .trace) ≡ o →
+              firstFault (from4 M opening known (b .trace) (readable report)) ≡ firstFault (from4 N opening known (b .trace) (readable report))
           pick none e = rw (replays-same (row4-order known (b .trace) .0 e .1) 1 (b .ofs)) refl
           pick (some n) e = rw e
 

@@ -1,6 +1,7 @@
 -- Two program tables in which the machine finds the same: the table in an array, with blank instructions behind each program's own, and the
--- programs as they were read; and by the same instructions a request goes on in the same way, which makes the same machine.
+-- programs as they were read; and by the same instructions a request goes on in the same way.
 use Prim.Native.Nat.{ℕ, zero, suc, _+_, _-_, _%_, _<_}
+use mathlib.Core.Bool.{Bool, true}
 use mathlib.Core.List.{List, [], _∷_}
 use mathlib.Core.Path.{_≡_, refl, sym, ap, _∙_}
 use native.Mathlib.Omega.{arith}
@@ -17,9 +18,10 @@ use Rattle.text.proofs.RowLaws.{firsts-at}
 use Rattle.ordering.proofs.Basics.{byBool}
 use Rattle.machine.specs.declared.instructions.Act.{Act}
 use Rattle.machine.specs.declared.instructions.Act.the-variants.{Goes, Asks, Replies}
-use Rattle.machine.specs.Instance.{Process, codeAt, machineBy, gone, machine}
+use Rattle.machine.specs.Instance.{Process, codeAt, gone}
 use Rattle.machine.specs.Instructions.{effectOf}
 use Rattle.machine.specs.Processes.{Advanced, instrAt, behind, go}
+use Rattle.machine.proofs.SameReplays.{Agree}
 use Rattle.machine.proofs.Steps.{follow}
 
 -- ── a table in an array, and as it was read ──
@@ -50,7 +52,7 @@ follow-same (Goes to) l n done f g h = h l to
 follow-same (Asks o into) l n done f g h = refl
 follow-same (Replies v) l n done f g h = refl
 
-pub go-same : (p q : List Instr) → ((at : ℕ) → instrAt p at ≡ instrAt q at) → (k : ℕ) (l : List ℕ) (at done : ℕ) →
+go-same : (p q : List Instr) → ((at : ℕ) → instrAt p at ≡ instrAt q at) → (k : ℕ) (l : List ℕ) (at done : ℕ) →
     go k p l at done ≡ go k q l at done
 unfolding go
 go-same p q h zero l at done = refl
@@ -62,9 +64,15 @@ go-same p q h (suc k) l at done =
     ∙ ap (behind (at % 64 ∷ []))
     (follow-same (e .act) (e .locals) (at % 64 + 1) (done + 1) _ _ (λ m to. go-same p q h k m to (done + 1)))
 
-module _ (limit : ℕ) (t u : List Program) (h : (prog at : ℕ) → instrAt (codeAt t prog) at ≡ instrAt (codeAt u prog) at) where
-  pub gone-same : (p : Process) → gone limit t p ≡ gone limit u p
-  gone-same p = ap (behind (p .path)) (go-same _ _ (h (p .prog)) (limit - p .done) (p .locals) (p .at) (p .done))
+module _ (limit : ℕ) (t u : List Program) where
+  -- program prog has the same instructions in both tables
+  abbrev pub Same : ℕ → Type 0
+  Same prog = (at : ℕ) → instrAt (codeAt t prog) at ≡ instrAt (codeAt u prog) at
 
-  unfoldable pub machine-same : machine limit t ≡ machine limit u
-  machine-same = λ i. machineBy (λ p. gone-same p i)
+  gone-same : (p : Process) → Same (p .prog) → gone limit t p ≡ gone limit u p
+  gone-same p h = ap (behind (p .path)) (go-same _ _ h (limit - p .done) (p .locals) (p .at) (p .done))
+
+  -- where all known programs are the same, the machines of both agree
+  pub tables-agree : (known : ℕ → Bool) → ((prog : ℕ) → known prog ≡ true → Same prog) → Agree (gone limit t) (gone limit u) known
+  tables-agree known same =
+      record { At = λ p. Same (p .prog); same = gone-same; starts = λ prog a b. same prog; stays = λ p o v h e. h }

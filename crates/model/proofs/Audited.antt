@@ -8,11 +8,14 @@ use Prim.Native.Nat.{ℕ, suc}
 use lib.Dec.{eqb}
 use native.Mathlib.Omega.{arith}
 use Rattle.text.specs.declared.report.Of.{Of}
+use Rattle.text.specs.Report.{Report}
+use Rattle.text.specs.Text.{readable}
+use Rattle.text.specs.declared.trace.Event.{Event}
 use Rattle.ordering.specs.Lists.{All}
-use Rattle.model.specs.Audit.{leftOver, replayChecks, from9, audit}
+use Rattle.model.specs.Audit.{leftOver, replayChecks, from9, from4, audit}
 use Rattle.model.specs.Requests.{row4, row4Open, row6}
 use Rattle.model.specs.Claims.{row7, row8, NoneTo8}
-use Rattle.model.specs.Batch.{Batch, Node}
+use Rattle.model.specs.Batch.{batchOf, Batch, Node}
 use Rattle.model.specs.Checks.{verdict, Check, check, firstFault}
 use Rattle.model.specs.Demand.{Demand3}
 use Rattle.model.specs.Machine.{Machine}
@@ -32,6 +35,12 @@ no-fault n cs h e = fault-clear n cs [] h (ap (λ cs. firstFault cs .number) (ap
 
 rows-formed : (known : ℕ → Bool) (b : Batch) → row4 known (b .trace) ≡ none → row6 b ≡ none → Formed b
 rows-formed known b e d = record { inOrder = row4-order known (b .trace) .0 e .0; matching = row6-matching b .0 d }
+
+-- the audit of a trace and a report that were read is the first fault of the list
+pub audit-rows : (M : Machine) (opening : ℕ → M .Content) (known : ℕ → Bool) (trace : List Event) (report : Report) →
+    firstFault (from4 M opening known trace (readable report)) ≡ audit M opening known (batchOf trace report)
+unfolding audit
+audit-rows M opening known trace report = refl
 
 module _ (M : Machine) (opening : ℕ → M .Content) (known : ℕ → Bool) (b : Batch) where
   -- ── the rows that the checks have ──

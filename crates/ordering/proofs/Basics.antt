@@ -1,7 +1,7 @@
 -- Bool tests with their readings, and maps with an update.
 use mathlib.Core.Path.{_≡_, refl, sym, subst, fun-ext}
 use mathlib.Core.Logic.{_≢_}
-use mathlib.Core.Bool.{Bool, true, false, cond, _&&_, not}
+use mathlib.Core.Bool.{Bool, true, false, _&&_, not}
 use Prim.Native.Nat.{ℕ}
 use lib.Dec.{T, eqb}
 use borrow.Author.Tests.{eqb-true, eqb-false, eq-eqb, ne-eqb, not-true as not-is-true}
@@ -49,14 +49,6 @@ and-true true true e = (refl, refl)
 and-true true false e = absurd (subst T (sym e) tt)
 and-true false true e = absurd (subst T (sym e) tt)
 and-true false false e = absurd (subst T (sym e) tt)
-
-pub or-no : (b : Bool) → cond b true false ≡ b
-or-no true = refl
-or-no false = refl
-
-pub or-yes : (b : Bool) → cond b true true ≡ true
-or-yes true = refl
-or-yes false = refl
 
 pub upd-same {ℓ} : {X : Type ℓ} (f : ℕ → X) (k : ℕ) (x : X) → upd f k x k ≡ x
 unfolding upd

@@ -16,6 +16,7 @@ use Rattle.model.specs.Audit.{from4, audit}
 use Rattle.model.specs.Batch.{batchOf}
 use Rattle.model.specs.Checks.{verdict, Verdict, firstFault, badLine, contents}
 use Rattle.model.specs.Requests.{row4, row4Open}
+use Rattle.model.proofs.Audited.{audit-rows}
 use Rattle.model.proofs.Main.{audit-exactly, row-9, line-of-0, line-of-9}
 use Rattle.model.proofs.Scans.{passes, passed, read-fine}
 use Rattle.machine.specs.Rules.{row2}
@@ -34,17 +35,18 @@ module _ (programs trace report : List ℕ) where
   -- is that of the texts,
   pub audit-of-read : (x : Readings programs trace report) →
       auditOf programs trace report ≡ audited (verdictOf x) (count isRequest (x .events)) (length (x .lines .log))
-  unfolding auditOf audit
+  unfolding auditOf
   audit-of-read x =
       let v : verdictOf x ≡ firstFault (checksOf (readable (x .table)) (readable (x .events)) (readable (x .lines))) =
-      passes verdict 2 (row2 (x .table)) _ (x .rules) in
+      sym (audit-rows (machineOf (x .table)) atStart (known (x .table)) (x .events) (x .lines))
+      ∙ passes verdict 2 (row2 (x .table)) _ (x .rules) in
       (λ i. auditedOf (x .tableRead i) (x .eventsRead i) (x .linesRead i))
       ∙ sym (ap (λ v. audited v (count isRequest (x .events)) (length (x .lines .log))) v)
 
   -- and texts with a verdict of none of the rows 1 to 5 were read
   texts-read : (n : ℕ) → All (λ k. eqb k n ≡ false) (1 ∷ 2 ∷ 3 ∷ 4 ∷ 5 ∷ []) → auditOf programs trace report .verdict ≡ n →
       (x : Readings programs trace report) × (verdictOf x .number ≡ n)
-  unfolding auditOf audit
+  unfolding auditOf
   texts-read n d e =
       let p = readPrograms programs in
       let t = readTrace trace in
@@ -67,7 +69,8 @@ module _ (programs trace report : List ℕ) where
           linesRead = lines;
           rules = e2 .0;
         },
-        subst (λ r. firstFault (from4 (machineOf table) atStart (known table) events r) .number ≡ n) lines (e3 .1),
+        ap (λ v. v .number) (sym (audit-rows (machineOf table) atStart (known table) events (contents noLines r)))
+            ∙ subst (λ r. firstFault (from4 (machineOf table) atStart (known table) events r) .number ≡ n) lines (e3 .1),
       )
 
   -- such a verdict is that of what was read

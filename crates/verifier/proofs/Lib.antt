@@ -4,7 +4,6 @@ pub mod TraceScans
 pub mod ReportScans
 pub mod PrintedLines
 pub mod ReportRanges
-pub mod SameReplays
 pub mod Verdicts
 -- Demand 3 for texts
 pub mod Acceptance

@@ -34,14 +34,15 @@ use Rattle.model.specs.Batch.{Batch, batchOf}
 use Rattle.model.specs.Checks.{Verdict, verdict, faultOr, firstFault, badLine, contents}
 use Rattle.model.proofs.Scans.{holds, passes}
 use Rattle.model.proofs.Trace.{Matching, row4-order, row6-matching}
-use Rattle.machine.specs.Instance.{machineOf}
+use Rattle.machine.specs.Instance.{gone, machineOf}
 use Rattle.machine.specs.Objects.{atStart}
 use Rattle.machine.specs.Processes.{limit}
 use Rattle.machine.specs.Rules.{brokenLine, row2}
 use Rattle.machine.specs.declared.rules.Ruling.the-variants.{Kept, Broken}
 use Rattle.machine.specs.declared.rules.Ruling.{Ruling}
 use Rattle.machine.proofs.Rulings.{broken, kept}
-use Rattle.machine.proofs.Tables.{same-code}
+use Rattle.machine.proofs.SameReplays.{replays-same}
+use Rattle.machine.proofs.Tables.{same-code, tables-agree}
 use Rattle.replay.specs.Judges.{batchIn, Ready, Judges}
 use Rattle.replay.specs.declared.Fault.{Fault}
 use Rattle.verifier.specs.Accepts.{Accepts}
@@ -53,7 +54,6 @@ use Rattle.verifier.specs.declared.audits.Checked.the-variants.{Refused}
 use Rattle.verifier.specs.declared.audits.Checked.the-variants as checked
 use Rattle.verifier.proofs.Acceptance.{audit-accepts}
 use Rattle.verifier.proofs.ReportRanges.{report-in-range}
-use Rattle.verifier.proofs.SameReplays.{replays-same}
 
 -- ── rows 6 and 7 ──
 -- one `of` line for each request
@@ -212,9 +212,9 @@ module _ (ps : Programs) (events : List ℕ) (t : ℕ) (traced : TraceHeld ps t)
       r ≡ auditedTrace table (eventsIn events t) (readReport s)
   judged f r g j =
       let v = subst (λ b. Ready (known table) b → verdict (f .row) (f .line) ≡ firstFault (from8 (machineOf (ps .table)) atStart b)) whole (j (known table)) ready in
-      let w = replays-same limit (ps .table) table (known table)
-      (λ (prog : ℕ). λ (e : known table prog ≡ true). same-code (ps .table) (ps .n) prog (below prog e) (traced .bounded prog (below prog e)))
-      atStart batch (row4-order (known table) (eventsIn events t) .0 lines4 .1) 1 (batch .ofs) in
+      let a = tables-agree limit (ps .table) table (known table)
+      (λ (prog : ℕ). λ (e : known table prog ≡ true). same-code (ps .table) (ps .n) prog (below prog e) (traced .bounded prog (below prog e))) in
+      let w = replays-same (gone limit (ps .table)) (gone limit table) (known table) a atStart batch (row4-order (known table) (eventsIn events t) .0 lines4 .1) 1 (batch .ofs) in
       let c : m ≡ count isRequest (eventsIn events t) =
       sym (firsts-length (ofAt ofs) m)
       ∙ matching-count (eventsIn events t) (firsts (ofAt ofs) m) (row6-matching batch .0 (h .unbroken .row6-none)) in
