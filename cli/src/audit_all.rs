@@ -126,7 +126,7 @@ fn audit_batches(
     let mut progress = Progress::new(names.len());
     workers::run(spool, results, names, jobs, &mut progress, |finding| {
         take(&finding);
-        findings.insert(finding.batch.clone(), finding);
+        findings.insert(finding.batch.clone(), finding.without_order());
     });
     progress.end();
     for name in names {

@@ -1,7 +1,8 @@
 //! What is known of a batch: its verdict with the words for it, or why it has none.
 
+use crate::answer::{Answer, Item};
 use crate::causes;
-use crate::json::{self, Object};
+use crate::json::{self, Object, Value};
 use crate::outcome::{count, NotRun, Status};
 use crate::proved::{self, Proved};
 use crate::shown;
@@ -80,6 +81,8 @@ pub struct Finding {
     /// The text that a refusal is about, and the line that it names, where there is such a line.
     pub text: Option<Text>,
     pub bytes: Option<Vec<u8>>,
+    /// The order of an accepted batch.
+    pub order: Option<Vec<Item>>,
     pub sentence: String,
     pub program: Program,
     /// When it was found, where that is kept.
@@ -94,17 +97,18 @@ impl Finding {
         proved: &mut Proved,
     ) -> Result<(Finding, Vec<u8>), NotRun> {
         let printed = proved.audit(texts)?;
-        let audited = Audited::read(printed)
-            .ok_or_else(|| NotRun::new("the library's answer is no verdict"))?;
+        let answer = Answer::read(printed, texts)
+            .map_err(|what| NotRun(format!("the library's answer is {what}")))?;
         let finding = Finding {
-            sentence: sentence(&audited, texts),
-            ..Finding::read(batch, audited, texts)
+            sentence: sentence(&answer.audited, texts),
+            ..Finding::read(batch, answer, texts)
         };
         Ok((finding, printed.to_vec()))
     }
 
     /// A verdict that was found of these texts, without its sentence.
-    pub fn read(batch: OsString, audited: Audited, texts: &Texts) -> Finding {
+    pub fn read(batch: OsString, answer: Answer, texts: &Texts) -> Finding {
+        let Answer { audited, order } = answer;
         let text = verdicts::text(audited.verdict);
         let bytes = text.and_then(|text| line_of(texts.bytes(text), audited.line));
         Finding {
@@ -113,6 +117,7 @@ impl Finding {
             audited: Some(audited),
             text,
             bytes: bytes.map(<[u8]>::to_vec),
+            order,
             sentence: String::new(),
             program: Program::this(),
             time: String::new(),
@@ -127,9 +132,18 @@ impl Finding {
             audited: None,
             text: None,
             bytes: None,
+            order: None,
             sentence,
             program: Program::this(),
             time: String::new(),
+        }
+    }
+
+    /// The finding as the table has it. An order is long, and of a large spool there are very many findings at once.
+    pub fn without_order(self) -> Finding {
+        Finding {
+            order: None,
+            ..self
         }
     }
 
@@ -149,12 +163,19 @@ impl Finding {
         object.add("bytes", json::optional(bytes.map(json::bytes)));
         object.add("requests", json::number(audited.map(|a| a.requests)));
         object.add("operations", json::number(audited.map(|a| a.operations)));
+        object.add("order", json::optional(self.order.as_deref().map(listed)));
         object.add("sentence", json::string(&self.sentence));
         object.add("version", json::string(&self.program.version));
         object.add("library", json::string(&self.program.library));
         object.add("kit", json::string(&self.program.kit));
         object.line()
     }
+}
+
+/// An order as a list of its lines.
+fn listed(order: &[Item]) -> Value {
+    let lines = order.iter().map(|item| json::string(&item.to_string()));
+    json::list(lines)
 }
 
 /// An audit's result in one sentence.

@@ -1,5 +1,5 @@
-//! The line formats of the four texts, for the wording of a refusal. Nothing is decided here: verdict and line are the
-//! proved library's, and this only says what is wrong with that line.
+//! The line formats of the four texts, for the wording of a refusal and of an order. Nothing is decided here: verdict, line and
+//! order are the proved library's, and this only says what stands in a line, or what is wrong with it.
 
 use crate::texts::Text;
 

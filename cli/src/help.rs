@@ -6,9 +6,10 @@ use crate::proved;
 pub const PROGRAM: &str = "\
 usage: teaselshears COMMAND [OPTION]... ARGUMENT...
 
-The audit of registry batches, and the reference host. The verdict is that of the proved library.
+The audit of registry batches, and the reference host. Verdict and order are those of the proved library.
 
   audit DIR                  audits the batch in folder DIR
+  order DIR                  tells how the batch in folder DIR, where it is accepted, could have gone
   record DIR OUT             runs the schedule in folder DIR on the reference host, and writes its batch to OUT
   audit-all SPOOL RESULTS    audits every batch of a spool once, and keeps the results
   explain N                  says what verdict N means, and what to do next
@@ -32,12 +33,19 @@ Standard output: what the proved function makes, byte for byte that of the prove
   line=N         the line that the verdict names, 0 where it names none
   requests=N     how many requests and operations the batch has; 0 where it is refused
   operations=N
+and behind them, only where it is accepted, an order in which it could have gone, one line for each line of the trace
+and each operation ('teaselshears order DIR' tells it in words):
+  event=N        line N of the trace
+  op=RID,NUM     operation NUM of request RID
+Of what may come next operations go before lines of the trace, and of several operations the one whose log line stands
+first in the report.
 Standard error: one sentence: accepted, or the verdict with its cause, the text and the line with its bytes (what is
 not printable as \\ and three octal digits).
 
       --json              one JSON object in place of both: batch, state, verdict, line, text, bytes, requests,
-                          operations, sentence, version, library, kit; null where there is none. A byte of 'bytes'
-                          is the character of its number; a name that is not UTF-8 is a list of its bytes
+                          operations, order, sentence, version, library, kit; null where there is none. A byte of
+                          'bytes' is the character of its number; 'order' is a list of the order's lines; a name that
+                          is not UTF-8 is a list of its bytes
       --missing-as-empty  a missing file is an empty text; without it such a batch is not run. A folder with none
                           of the three files is never run
   -                       in place of DIR: takes folder names from standard input, one a line, and prints an object
@@ -48,6 +56,32 @@ not printable as \\ and three octal digits).
 Exit status: 0 accepted, 1 refused, 2 could not be run: no such folder, a text that is missing, is not a regular file
 or cannot be read, standard output that cannot be written. Of several batches: 0 all accepted, 1 some refused, 2 some
 could not be run, or there was none.
+";
+
+pub const ORDER: &str = "\
+usage: teaselshears order [--missing-as-empty] DIR
+
+Audits the batch in folder DIR as 'teaselshears audit' does and, where it is accepted, tells a person how it could have
+gone.
+
+Standard output: the order that 'teaselshears audit' prints, with words from column 15 on; nothing where the batch is
+refused:
+  event=N        line N of the trace: its bytes
+  op=RID,NUM     operation NUM of request RID: its line in the report with its bytes, and what the request does:
+                   writes V to register O
+                   reads register O and gets V
+                   puts V at key K of store O
+                   reads key K of store O and gets V
+Standard error: one sentence, that of 'teaselshears audit'.
+
+The order is proved: the first word of each line. The words behind it are not proved, nor are the line numbers and the
+values that are read: this program works them out by following the order, with 0 in every register and store at first.
+
+      --missing-as-empty  a missing file is an empty text; without it such a batch is not run. A folder with none
+                          of the three files is never run
+  -h, --help              this text
+
+Exit status: 0 accepted, 1 refused, 2 could not be run.
 ";
 
 pub const RECORD: &str = "\
@@ -82,7 +116,8 @@ name that begins with a dot, then rename it. The name of a batch is used once.
 
 RESULTS: new, empty, or made by this command; not in SPOOL, nor SPOOL in it.
   batches/NAME/programs.txt, trace.txt, report.txt   the texts that were audited
-  batches/NAME/output                                what 'teaselshears audit' prints for them
+  batches/NAME/output                                what 'teaselshears audit' prints for them; without the order
+                                                     where a version that had none kept it
   batches/NAME/about                                 time (UTC), version, library, kit and sentence
   table.csv                                          a heading, and a row for each batch of the spool and each kept
                                                      result: batch, state, verdict, line, requests, operations,

@@ -42,6 +42,11 @@ pub fn name(name: &OsStr) -> Value {
     }
 }
 
+pub fn list(values: impl Iterator<Item = Value>) -> Value {
+    let values: Vec<String> = values.map(|Value(value)| value).collect();
+    Value(format!("[{}]", values.join(",")))
+}
+
 pub fn optional(value: Option<Value>) -> Value {
     value.unwrap_or_else(|| Value("null".to_owned()))
 }
@@ -83,6 +88,9 @@ mod tests {
         let mut object = Object::new();
         object.add("a", number(Some(1)));
         object.add("b", number(None));
-        assert_eq!(object.line(), "{\"a\":1,\"b\":null}\n");
+        object.add("c", list(["x", "y"].into_iter().map(string)));
+        object.add("d", list([].into_iter()));
+        let line = "{\"a\":1,\"b\":null,\"c\":[\"x\",\"y\"],\"d\":[]}\n";
+        assert_eq!(object.line(), line);
     }
 }

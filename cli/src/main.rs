@@ -1,6 +1,7 @@
 //! `teaselshears`: the audit of registry batches and the reference host, over the proved library. Everything that decides a
 //! verdict is proved; this program reads the texts, once, hands them over, and keeps, prints and words what comes back.
 
+mod answer;
 mod arguments;
 mod audit;
 mod audit_all;
@@ -10,6 +11,7 @@ mod findings;
 mod formats;
 mod help;
 mod json;
+mod order;
 mod outcome;
 mod proved;
 mod record;
@@ -49,6 +51,7 @@ fn run(words: Vec<OsString>) -> Result<Status, NotRun> {
     };
     match command.to_str() {
         Some("audit") => audit::run(words),
+        Some("order") => order::run(words),
         Some("record") => record::run(words),
         Some("audit-all") => audit_all::run(words),
         Some("explain") => explain::run(words),

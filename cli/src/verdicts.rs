@@ -39,16 +39,17 @@ pub struct Audited {
 }
 
 impl Audited {
-    /// Reads the verdict lines in front of what an audit printed.
-    pub fn read(printed: &[u8]) -> Option<Audited> {
-        let ([verdict, line, requests, operations], _) =
+    /// Reads the verdict lines in front of what an audit printed, and gives what stands behind them with it.
+    pub fn read(printed: &[u8]) -> Option<(Audited, &[u8])> {
+        let ([verdict, line, requests, operations], behind) =
             numbers(printed, ["verdict=", "line=", "requests=", "operations="])?;
-        (verdict != 0 || line == 0).then_some(Audited {
+        let audited = Audited {
             verdict,
             line,
             requests,
             operations,
-        })
+        };
+        (verdict != 0 || line == 0).then_some((audited, behind))
     }
 }
 
@@ -192,11 +193,13 @@ mod tests {
 
     #[test]
     fn verdict_lines_are_read_or_not_at_all() {
-        let read = Audited::read(b"verdict=0\nline=0\nrequests=2\noperations=4\n").unwrap();
+        let printed = b"verdict=0\nline=0\nrequests=2\noperations=4\nevent=1\n";
+        let (read, behind) = Audited::read(printed).unwrap();
         assert_eq!(
             (read.verdict, read.line, read.requests, read.operations),
             (0, 0, 2, 4)
         );
+        assert_eq!(behind, b"event=1\n");
         let wrong: [&[u8]; 11] = [
             b"",
             b"verdict=0\nline=0\nrequests=2\noperations=4",

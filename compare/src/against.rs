@@ -1,16 +1,19 @@
 //! What is asked of every case of the proved functions: that they agree with this implementation, to the last
 //! byte of every buffer.
 
-use crate::audit::Audited;
+use crate::audit::{audited, Audited};
 use crate::cases::Case;
-use crate::checks::{audit_of, not_accepted, Check};
+use crate::checks::{audit_of, checked_of, not_accepted, printed_of, Check};
 use crate::host::record;
+use crate::order::order;
+use crate::plain::Item;
 use crate::proved;
 use crate::texts::{BatchTexts, TEXT_LIMIT};
 
-pub const AGAINST_PROVED: [Check; 6] = [
+pub const AGAINST_PROVED: [Check; 7] = [
     audits_agree,
     records_agree,
+    orders_agree,
     printed_audits_agree,
     printed_records_agree,
     what_is_too_short_is_left_alone,
@@ -23,16 +26,77 @@ fn audits_agree(case: &Case) -> Option<String> {
     (here != proved).then(|| format!("here {here:?}, proved {proved:?}"))
 }
 
-/// What the program `audit` prints.
-fn printed_audits_agree(case: &Case) -> Option<String> {
+/// The order as numbers, with room enough, with just enough and with a number too little in one of the two.
+fn orders_agree(case: &Case) -> Option<String> {
+    let checked = checked_of(&case.batch);
+    let accepted = checked.as_ref().ok();
+    let items = accepted.map(order).unwrap_or_default().into_iter();
+    let order: Vec<u64> = items.flat_map(numbers).collect();
     let Audited {
         verdict,
         line,
         requests,
         operations,
-    } = audit_of(&case.batch);
-    let text =
-        format!("verdict={verdict}\nline={line}\nrequests={requests}\noperations={operations}\n");
+    } = audited(&checked);
+    let counted = [line, requests, operations, order.len()].map(|number| number as u64);
+    let result = [&[verdict][..], &counted].concat();
+    let (places, needed) = (result.len(), order.len());
+    let rooms = [
+        (places + 1, needed + 2),
+        (places, needed),
+        (places - 1, needed),
+        (places, needed.saturating_sub(1)),
+    ];
+    rooms
+        .into_iter()
+        .find_map(|rooms| orders_differ(case, &result, &order, rooms))
+}
+
+/// An item as two numbers.
+fn numbers(item: Item) -> [u64; 2] {
+    match item {
+        Item::Event { line } => [line as u64, 0],
+        Item::Operation { rid, num } => [rid, num],
+    }
+}
+
+/// Both are written whole, or neither where the room of one is too little.
+fn orders_differ(
+    case: &Case,
+    result: &[u64],
+    order: &[u64],
+    rooms: (usize, usize),
+) -> Option<String> {
+    let mut out = vec![UNTOUCHED; rooms.0];
+    let mut items = vec![UNTOUCHED; rooms.1];
+    let written = proved::order_into(&case.batch, &mut out, &mut items);
+    let enough = rooms.0 >= result.len() && rooms.1 >= order.len();
+    let [result, order] = [result, order].map(|numbers| if enough { numbers } else { &[] });
+    let difference = if written != result.len() || !holds_numbers(&out, result) {
+        format!("here {result:?}, proved {written} numbers in {out:?}")
+    } else if !holds_numbers(&items, order) {
+        "the order's places differ".into()
+    } else {
+        return None;
+    };
+    Some(format!(
+        "{difference}, with {} and {} places of room",
+        rooms.0, rooms.1
+    ))
+}
+
+/// What a place for a number holds before; no result and no item has it.
+const UNTOUCHED: u64 = u64::MAX;
+
+/// Whether these numbers stand at the front, and every place behind them is untouched.
+fn holds_numbers(places: &[u64], numbers: &[u64]) -> bool {
+    let behind = places.strip_prefix(numbers);
+    behind.is_some_and(|behind| behind.iter().all(|place| *place == UNTOUCHED))
+}
+
+/// What the program `audit` prints, the order with it.
+fn printed_audits_agree(case: &Case) -> Option<String> {
+    let text = printed_of(&case.batch);
     prints_differ(text.as_bytes(), |out| proved::audit_text(&case.batch, out))
 }
 

@@ -36,31 +36,45 @@ pub struct Audited {
 
 /// Verdict, line and counts of a batch.
 pub fn audit(programs: &[u8], trace: &[u8], report: &[u8]) -> Audited {
-    match checked(programs, trace, report) {
-        Ok(batch) => Audited {
+    audited(&checked(programs, trace, report))
+}
+
+/// Verdict, line and counts of what was checked.
+pub fn audited(checked: &Result<Accepted, Fault>) -> Audited {
+    match checked {
+        Ok(Accepted { batch, .. }) => Audited {
             verdict: 0,
             line: 0,
             requests: batch.requests.len(),
             operations: batch.report.log.len(),
         },
         Err(Fault { verdict, line }) => Audited {
-            verdict,
-            line,
+            verdict: *verdict,
+            line: *line,
             requests: 0,
             operations: 0,
         },
     }
 }
 
-fn checked(programs: &[u8], trace: &[u8], report: &[u8]) -> Result<Batch, Fault> {
+/// An accepted batch, and what comes before what in it. The nodes are the events of the trace and, behind
+/// them, the log lines, each of which stands for the operation that it claims.
+pub struct Accepted {
+    pub batch: Batch,
+    pub graph: Graph,
+}
+
+/// The batch where no row holds of it, else the first fault.
+pub fn checked(programs: &[u8], trace: &[u8], report: &[u8]) -> Result<Accepted, Fault> {
     let batch = read_batch(programs, trace, report)?;
     let claims = claims(&batch.report)?;
     every_operation_claimed(&batch.report, &claims)?;
-    if order_returns(&batch, &claims) {
+    let graph = comes_before(&batch, &claims);
+    if graph.has_cycle() {
         return Err(Fault::new(9, 0));
     }
     replay_all(&batch, &claims)?;
-    Ok(batch)
+    Ok(Accepted { batch, graph })
 }
 
 /// A batch whose texts are readable and keep the rules.
@@ -167,11 +181,8 @@ fn every_operation_claimed(report: &Report, claims: &Claims) -> Result<(), Fault
     Ok(())
 }
 
-/// Row 9: whether some chain of "comes before" returns to its start.
-///
-/// The nodes are the events of the trace and, behind them, the log lines, each of which stands for the
-/// operation that it claims.
-fn order_returns(batch: &Batch, claims: &Claims) -> bool {
+/// What comes before what; row 9 stands where some chain of it returns to its start.
+fn comes_before(batch: &Batch, claims: &Claims) -> Graph {
     let events = batch.trace.len();
     let mut graph = Graph::new(events + batch.report.log.len());
     graph.chain(0..events);
@@ -195,7 +206,7 @@ fn order_returns(batch: &Batch, claims: &Claims) -> bool {
                 .map(|(index, _)| events + index),
         );
     }
-    graph.has_cycle()
+    graph
 }
 
 fn place_of(trace: &[Event], wanted: impl Fn(&Event) -> bool) -> usize {
@@ -205,8 +216,9 @@ fn place_of(trace: &[Event], wanted: impl Fn(&Event) -> bool) -> usize {
         .expect("row 4 leaves one request and one response for each rid")
 }
 
-struct Graph {
-    successors: Vec<Vec<usize>>,
+pub struct Graph {
+    /// For each node those that it comes before.
+    pub successors: Vec<Vec<usize>>,
 }
 
 #[derive(Clone, Copy, PartialEq, Eq)]
@@ -231,6 +243,17 @@ impl Graph {
                 self.successors[before].push(node);
             }
         }
+    }
+
+    /// For each node those that come before it.
+    pub fn forerunners(&self) -> Vec<Vec<usize>> {
+        let mut forerunners = vec![Vec::new(); self.successors.len()];
+        for (node, successors) in self.successors.iter().enumerate() {
+            for &next in successors {
+                forerunners[next].push(node);
+            }
+        }
+        forerunners
     }
 
     fn has_cycle(&self) -> bool {
@@ -331,6 +354,7 @@ mod tests {
             name,
             batch,
             expected,
+            ..
         } in worked::batches()
         {
             assert_eq!(

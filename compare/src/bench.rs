@@ -4,6 +4,7 @@
 mod batches;
 
 use crate::host;
+use crate::order::{order_quickly, printed};
 use crate::texts::TEXT_LIMIT;
 use crate::{audit, proved};
 use batches::Measured;
@@ -12,12 +13,14 @@ use std::hint::black_box;
 use std::process::Command;
 use std::time::{Duration, Instant};
 
-/// `Read` is the audit of texts whose report has an unreadable last line, so that it ends at row 5: the texts
+/// `Audit` gives verdict and counts alone; `Printed` is the text that the program `audit` prints, the order with
+/// it. `Read` is the audit of texts whose report has an unreadable last line, so that it ends at row 5: the texts
 /// are read, programs and trace are checked, and no more.
 #[derive(Clone, Copy, Debug, PartialEq)]
 enum Function {
     Audit,
     Read,
+    Printed,
     Record,
 }
 
@@ -25,7 +28,7 @@ impl Function {
     /// The verdict that each side must give.
     fn verdict(self) -> u64 {
         match self {
-            Function::Audit | Function::Record => 0,
+            Function::Audit | Function::Printed | Function::Record => 0,
             Function::Read => 5,
         }
     }
@@ -37,13 +40,14 @@ enum Side {
     Rust,
 }
 
-/// One function on one input. The proved `record` writes into the same two buffers at each call, and they
-/// are not cleared between the calls.
+/// One function on one input. The proved `record` writes into the same two buffers at each call, as the proved
+/// text of the audit is written into one, and they are not cleared between the calls.
 struct Subject {
     function: Function,
     measured: Measured,
     trace: Vec<u8>,
     report: Vec<u8>,
+    text: Vec<u8>,
 }
 
 impl Subject {
@@ -56,6 +60,7 @@ impl Subject {
             measured,
             trace: vec![0; TEXT_LIMIT],
             report: vec![0; TEXT_LIMIT],
+            text: vec![0; TEXT_LIMIT],
         }
     }
 
@@ -69,6 +74,14 @@ impl Subject {
             (Function::Audit | Function::Read, Side::Rust) => {
                 audit::audit(&batch.programs, &batch.trace, &batch.report).verdict
             }
+            (Function::Printed, Side::Proved) => {
+                let length = proved::audit_text(batch, &mut self.text);
+                printed_verdict(&self.text[..length])
+            }
+            (Function::Printed, Side::Rust) => {
+                let text = printed(batch, order_quickly);
+                printed_verdict(black_box(text.as_bytes()))
+            }
             (Function::Record, Side::Proved) => {
                 let (trace, report) = (&mut self.trace, &mut self.report);
                 proved::record(&batch.programs, schedule, trace, report).verdict
@@ -81,15 +94,21 @@ impl Subject {
     }
 }
 
+/// 0 where a printed text begins with that verdict.
+fn printed_verdict(text: &[u8]) -> u64 {
+    u64::from(!text.starts_with(b"verdict=0\n"))
+}
+
 const LINES: [usize; 4] = [128, 256, 512, 1_024];
 
 fn subjects() -> Vec<Subject> {
-    let audited = vec![batches::usual(), batches::worst()];
+    let [audited, printed] = [(); 2].map(|()| vec![batches::usual(), batches::worst()]);
     let longest = batches::longest_schedule();
     let recorded = vec![batches::usual(), batches::worst(), longest];
     let mut subjects = of(Function::Audit, audited);
     let read = [batches::usual(), batches::worst()];
     subjects.extend(read.map(|input| Subject::new(Function::Read, input)));
+    subjects.extend(of(Function::Printed, printed));
     subjects.extend(of(Function::Record, recorded));
     subjects
 }

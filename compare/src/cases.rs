@@ -3,7 +3,7 @@
 use crate::audit::Audited;
 use crate::damage::{damage_batch, damage_schedule};
 use crate::random::{self, Random, Run};
-use crate::texts::{BatchTexts, TEXT_LIMIT};
+use crate::texts::{read_report, write_report, BatchTexts, TEXT_LIMIT};
 use crate::worked;
 
 /// The seed of the cases that are the same in every comparison.
@@ -20,6 +20,8 @@ pub struct Case {
     pub room_report: usize,
     /// The audit's result, where the paper gives it.
     pub expected: Option<Audited>,
+    /// The lines of the order, where they were worked out by hand.
+    pub expected_order: Option<&'static str>,
     /// The host's verdict and line, where the paper gives them.
     pub expected_record: Option<(u64, usize)>,
 }
@@ -46,6 +48,7 @@ fn worked_cases() -> impl Iterator<Item = Case> {
         room_trace: TEXT_LIMIT,
         room_report: TEXT_LIMIT,
         expected: Some(case.expected),
+        expected_order: case.order,
         expected_record: None,
     });
     let schedules = worked_schedules().map(|case| Case {
@@ -64,6 +67,7 @@ pub fn worked_schedules() -> impl Iterator<Item = Case> {
         room_trace: case.room_trace,
         room_report: TEXT_LIMIT,
         expected: None,
+        expected_order: None,
         expected_record: Some(case.expected),
     })
 }
@@ -86,6 +90,9 @@ fn random_case(seed: u64, number: u64) -> Case {
     if random.percent(40) {
         damage_schedule(&mut random, &mut schedule);
     }
+    if random.percent(30) {
+        interleave_logs(&mut random, &mut batch.report);
+    }
     Case {
         name: format!("seed-{seed}-case-{number}"),
         batch,
@@ -93,7 +100,16 @@ fn random_case(seed: u64, number: u64) -> Case {
         room_trace,
         room_report,
         expected: None,
+        expected_order: None,
         expected_record: None,
+    }
+}
+
+/// The report told otherwise, where it can be read: the order to read goes by report lines, and the host writes
+/// one object's log behind the other's.
+fn interleave_logs(random: &mut Random, report: &mut Vec<u8>) {
+    if let Ok(read) = read_report(report) {
+        *report = write_report(&random::interleave(random, &read));
     }
 }
 

@@ -1,17 +1,21 @@
 //! What is asked of every case. Each check says what differs, or nothing.
 
-use crate::audit::{audit, read_batch, Audited};
+use crate::audit::{audit, checked, read_batch, Accepted, Audited, Fault};
 use crate::cases::Case;
 use crate::host::{record, Recorded};
-use crate::plain::{search_orders, Found};
+use crate::order::{order, order_quickly, printed, verdict_lines};
+use crate::plain::{allows, search_orders, Found};
+use crate::rule;
 use crate::texts::{BatchTexts, TEXT_LIMIT};
 
 pub type Check = fn(&Case) -> Option<String>;
 
 /// The checks within this implementation.
-pub const ALONE: [Check; 3] = [
+pub const ALONE: [Check; 5] = [
     the_paper_agrees,
     acceptance_means_an_order,
+    the_order_worked_out_is_printed,
+    the_order_is_right,
     what_the_host_writes_is_accepted,
 ];
 
@@ -20,6 +24,16 @@ const SEARCH_BUDGET: usize = 3_000;
 
 pub fn audit_of(batch: &BatchTexts) -> Audited {
     audit(&batch.programs, &batch.trace, &batch.report)
+}
+
+/// The batch with what comes before what, where it is accepted.
+pub fn checked_of(batch: &BatchTexts) -> Result<Accepted, Fault> {
+    checked(&batch.programs, &batch.trace, &batch.report)
+}
+
+/// What the program `audit` prints of a batch.
+pub fn printed_of(batch: &BatchTexts) -> String {
+    printed(batch, order)
 }
 
 pub fn record_of(case: &Case) -> Recorded {
@@ -59,6 +73,31 @@ fn acceptance_means_an_order(case: &Case) -> Option<String> {
         Some(Found::NoOrder) if accepted => Some(format!("no order exists, and {audited:?}")),
         _ => None,
     }
+}
+
+fn the_order_worked_out_is_printed(case: &Case) -> Option<String> {
+    let expected = verdict_lines(case.expected?) + case.expected_order?;
+    let printed = printed_of(&case.batch);
+    (printed != expected).then(|| format!("expected {expected:?}, and {printed:?}"))
+}
+
+/// The order of an accepted batch is allowed by demand 3 and by the rule, and both ways to make it agree.
+fn the_order_is_right(case: &Case) -> Option<String> {
+    let accepted = checked_of(&case.batch).ok()?;
+    let batch = &accepted.batch;
+    let order = order(&accepted);
+    let wrong = if !rule::has_each_item_once(batch, &order) {
+        "an item is missing or stands twice"
+    } else if !allows(batch, &order) {
+        "demand 3 does not allow the order"
+    } else if !rule::is_kept(batch, &order) {
+        "another item should have gone first"
+    } else if order_quickly(&accepted) != order {
+        "the quick way gives another order"
+    } else {
+        return None;
+    };
+    Some(wrong.into())
 }
 
 fn what_the_host_writes_is_accepted(case: &Case) -> Option<String> {

@@ -12,11 +12,13 @@ mod damage;
 mod host;
 mod machine;
 mod maps;
+mod order;
 mod plain;
 #[cfg(feature = "proved")]
 mod proved;
 mod random;
 mod reduce;
+mod rule;
 mod texts;
 mod vectors;
 mod worked;
@@ -35,8 +37,9 @@ usage: compare [--alone] [--cases N] [--seed S] [--out DIR] [--vectors DIR]
 
 Runs N cases (10000 if not given): the worked ones, then half from a fixed seed and the rest from seed S
 (taken from the clock if not given, and printed). Each case is a batch, honest or damaged, and a schedule.
-  --alone    only the checks within this implementation: acceptance against a search of all orders, and
-             what the host writes against the audit
+  --alone    only the checks within this implementation: acceptance against a search of all orders, the
+             order that is printed against its rule and a plain run, and what the host writes against the
+             audit
   --out DIR  where a difference, reduced, is written (differences)
   --vectors DIR  also sees that the stored vectors of crate `vectors` are those that `vectors` writes
 The last line is 'N passed, M failed'; the exit status is 0 only where nothing failed.

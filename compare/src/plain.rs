@@ -5,20 +5,31 @@
 
 use crate::audit::Batch;
 use crate::machine::{Objects, Path, Pause, Running};
-use crate::texts::{Event, LogLine, Program, Response};
+use crate::texts::{Event, LogLine, Program, Request, Response};
 use std::collections::BTreeMap;
+use std::fmt;
 
-/// An item of an order.
-#[derive(Clone, Copy, Debug)]
+/// An item of an order: a trace line by its number, or an operation.
+#[derive(Clone, Copy, Debug, PartialEq, Eq, PartialOrd, Ord)]
 pub enum Item {
-    Event(Event),
+    Event { line: usize },
     Operation { rid: u64, num: u64 },
+}
+
+impl fmt::Display for Item {
+    fn fmt(&self, out: &mut fmt::Formatter) -> fmt::Result {
+        match self {
+            Item::Event { line } => write!(out, "event={line}"),
+            Item::Operation { rid, num } => write!(out, "op={rid},{num}"),
+        }
+    }
 }
 
 /// The state of the plain run.
 #[derive(Clone)]
 pub struct PlainRun<'a> {
     programs: &'a [Program],
+    trace: &'a [Event],
     objects: Objects,
     logs: BTreeMap<u64, Vec<LogLine>>,
     requests: BTreeMap<u64, Followed<'a>>,
@@ -31,9 +42,10 @@ struct Followed<'a> {
 }
 
 impl<'a> PlainRun<'a> {
-    pub fn new(programs: &'a [Program]) -> PlainRun<'a> {
+    pub fn new(programs: &'a [Program], trace: &'a [Event]) -> PlainRun<'a> {
         PlainRun {
             programs,
+            trace,
             objects: Objects::default(),
             logs: BTreeMap::new(),
             requests: BTreeMap::new(),
@@ -43,16 +55,20 @@ impl<'a> PlainRun<'a> {
     /// Runs one item; `None` where the run fails.
     pub fn run(&mut self, item: Item) -> Option<()> {
         match item {
-            Item::Event(Event::Request(request)) => {
-                let running = Running::open(self.programs, &request);
-                let open = true;
-                self.requests
-                    .insert(request.rid, Followed { open, running });
-                Some(())
-            }
-            Item::Event(Event::Response(response)) => self.respond(response),
+            Item::Event { line } => match self.trace[line - 1] {
+                Event::Request(request) => self.open(request),
+                Event::Response(response) => self.respond(response),
+            },
             Item::Operation { rid, num } => self.operate(rid, num),
         }
+    }
+
+    fn open(&mut self, request: Request) -> Option<()> {
+        let running = Running::open(self.programs, &request);
+        let open = true;
+        self.requests
+            .insert(request.rid, Followed { open, running });
+        Some(())
     }
 
     fn open_request(&mut self, rid: u64) -> Option<&mut Followed<'a>> {
@@ -112,6 +128,18 @@ impl<'a> PlainRun<'a> {
     }
 }
 
+/// Whether demand 3 allows this order.
+pub fn allows(batch: &Batch, order: &[Item]) -> bool {
+    let lines = order.iter().filter_map(|item| match item {
+        Item::Event { line } => Some(*line),
+        Item::Operation { .. } => None,
+    });
+    let mut run = PlainRun::new(&batch.programs, &batch.trace);
+    lines.eq(1..=batch.trace.len())
+        && order.iter().all(|item| run.run(*item).is_some())
+        && run.ends_as_reported(batch)
+}
+
 /// What the search found.
 #[derive(Clone, Copy, Debug, PartialEq, Eq)]
 pub enum Found {
@@ -124,7 +152,7 @@ pub enum Found {
 /// Whether demand 3 allows some order of the batch, found within so many items.
 pub fn search_orders(batch: &Batch, budget: usize) -> Found {
     let mut search = Search { batch, budget };
-    match search.extend(&PlainRun::new(&batch.programs), 0) {
+    match search.extend(&PlainRun::new(&batch.programs, &batch.trace), 0) {
         Some(true) => Found::Order,
         Some(false) => Found::NoOrder,
         None => Found::GaveUp,
@@ -139,17 +167,16 @@ struct Search<'a> {
 impl Search<'_> {
     /// Whether the run can be brought to an allowed end; `None` when the budget is used up.
     fn extend(&mut self, run: &PlainRun, events: usize) -> Option<bool> {
-        let trace = &self.batch.trace;
-        if events == trace.len() && run.ends_as_reported(self.batch) {
+        if events == run.trace.len() && run.ends_as_reported(self.batch) {
             return Some(true);
         }
-        for item in next_items(run, trace.get(events)) {
+        for item in next_items(run, events) {
             self.budget = self.budget.checked_sub(1)?;
             let mut next = run.clone();
             if next.run(item).is_none() || !next.keeps_to(self.batch) {
                 continue;
             }
-            let events = events + usize::from(matches!(item, Item::Event(_)));
+            let events = events + usize::from(matches!(item, Item::Event { .. }));
             if self.extend(&next, events)? {
                 return Some(true);
             }
@@ -158,14 +185,16 @@ impl Search<'_> {
     }
 }
 
-/// Every item that does not fail at once: the next trace line, and the next operation of each open request.
-fn next_items(run: &PlainRun, event: Option<&Event>) -> Vec<Item> {
+/// Every item that does not fail at once: the trace line behind these, and the next operation of each open
+/// request.
+fn next_items(run: &PlainRun, events: usize) -> Vec<Item> {
     let operations = run.requests.iter().filter(|(_, request)| request.open);
     let operations = operations.map(|(rid, request)| Item::Operation {
         rid: *rid,
         num: request.running.operations() + 1,
     });
-    let event = event.map(|event| Item::Event(*event));
+    let line = events + 1;
+    let event = (line <= run.trace.len()).then_some(Item::Event { line });
     operations.chain(event).collect()
 }
 
@@ -181,6 +210,7 @@ mod tests {
             name,
             batch,
             expected,
+            ..
         } in worked::batches()
         {
             let read = read_batch(&batch.programs, &batch.trace, &batch.report);

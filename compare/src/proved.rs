@@ -28,6 +28,12 @@ pub fn audit_into(batch: &BatchTexts, out: &mut [u64]) -> usize {
     teaselshears::audit(&batch.programs, &batch.trace, &batch.report, out)
 }
 
+/// The audit with its numbers and how many stand in `order` to the front of `out`, and the order to the front
+/// of `order`: how many were written to `out`.
+pub fn order_into(batch: &BatchTexts, out: &mut [u64], order: &mut [u64]) -> usize {
+    teaselshears::order(&batch.programs, &batch.trace, &batch.report, out, order)
+}
+
 /// What the program `audit` prints, to the front of `out`: how many bytes were written.
 pub fn audit_text(batch: &BatchTexts, out: &mut [u8]) -> usize {
     teaselshears::audit_text(&batch.programs, &batch.trace, &batch.report, out)

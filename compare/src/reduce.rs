@@ -90,6 +90,7 @@ mod tests {
             room_trace: 0,
             room_report: 0,
             expected: None,
+            expected_order: None,
             expected_record: None,
         };
         let reduced = reduce(case, |case| {

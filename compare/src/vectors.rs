@@ -4,10 +4,11 @@
 //! A file is one vector after the other. A vector is a header, `NAME=n,n,..` and a line feed, and then its
 //! texts, with nothing between them. A batch has three numbers, the lengths of its texts; a schedule has four,
 //! the lengths of programs and schedule and of the buffers that are lent for trace and report. What is printed
-//! is the name, `=` and the numbers of the result.
+//! is the name, `=` and the numbers of the result: of a batch the audit's, then length and sum of the text that
+//! the program `audit` prints; of a schedule the host's, then a sum over each buffer.
 
 use crate::cases::{self, Case};
-use crate::checks::{audit_of, record_of};
+use crate::checks::{audit_of, printed_of, record_of};
 use crate::texts::{BatchTexts, TEXT_LIMIT};
 use crate::worked;
 use std::fs;
@@ -90,6 +91,7 @@ fn batch_vectors() -> Vec<Vector> {
 
 fn batch_vector(name: &str, batch: &BatchTexts) -> Vector {
     let audited = audit_of(batch);
+    let text = printed_of(batch);
     let BatchTexts {
         programs,
         trace,
@@ -101,6 +103,8 @@ fn batch_vector(name: &str, batch: &BatchTexts) -> Vector {
         audited.line as u64,
         audited.requests as u64,
         audited.operations as u64,
+        text.len() as u64,
+        sum(text.as_bytes()),
     ];
     Vector {
         stored: [line(name, &lengths).as_bytes(), programs, trace, report].concat(),
@@ -134,6 +138,7 @@ fn case_c_in_rooms() -> impl Iterator<Item = Case> {
         room_trace: needed.0 + trace - 1,
         room_report: needed.1 + report - 1,
         expected: None,
+        expected_order: None,
         expected_record: None,
     })
 }
@@ -166,8 +171,13 @@ fn schedule_vector(case: &Case) -> Vector {
 fn sum_over(text: &[u8], before: u8) -> u64 {
     let mut buffer = vec![before; TEXT_LIMIT + 1];
     buffer[..text.len()].copy_from_slice(text);
+    sum(&buffer)
+}
+
+/// The bytes as digits to the base 257, modulo the largest prime below 2^32.
+fn sum(bytes: &[u8]) -> u64 {
     let add = |sum, byte: &u8| (sum * 257 + u64::from(*byte)) % 4_294_967_291;
-    buffer.iter().fold(0, add)
+    bytes.iter().fold(0, add)
 }
 
 fn line(name: &str, numbers: &[u64]) -> String {

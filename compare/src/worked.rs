@@ -1,7 +1,8 @@
 //! The batches and schedules that the scope paper works out, an example of every row of its table, and the
-//! limits, each with the result that the paper gives.
+//! limits, each with the result that the paper gives; and orders to read, worked out by hand.
 
 mod limits;
+mod orders;
 mod schedules;
 
 use crate::audit::Audited;
@@ -16,6 +17,7 @@ pub const SCHEDULE_OF_C: &[u8] =
 const TRACE_OF_C: &str = "request=1,0,0,0\nrequest=2,1,0,0\nresponse=1,0,1\nresponse=2,0,1\n";
 const REPORT_OF_C: &str = "of=1,0,2\nof=2,1,2\n\
                            log=0,1,1,7,0,1\nlog=0,2,2,6,0,0\nlog=1,2,1,7,0,1\nlog=1,1,2,6,0,0\n";
+const ORDER_OF_C: &str = "event=1\nop=1,1\nevent=2\nop=2,1\nop=2,2\nop=1,2\nevent=3\nevent=4\n";
 
 pub use schedules::schedules;
 
@@ -23,6 +25,18 @@ pub struct Case {
     pub name: &'static str,
     pub batch: BatchTexts,
     pub expected: Audited,
+    /// The lines of the order, where they were worked out by hand; a refused batch has none.
+    pub order: Option<&'static str>,
+}
+
+impl Case {
+    /// An accepted batch with the lines of its order.
+    fn in_order(self, order: &'static str) -> Case {
+        Case {
+            order: Some(order),
+            ..self
+        }
+    }
 }
 
 pub fn batch(programs: &str, trace: &str, report: &str) -> BatchTexts {
@@ -43,6 +57,7 @@ pub fn batches() -> Vec<Case> {
     cases.extend(rows());
     cases.extend(readings());
     cases.extend(limits::limits());
+    cases.extend(orders::orders());
     cases
 }
 
@@ -57,6 +72,7 @@ fn accepted(name: &'static str, batch: BatchTexts, requests: usize, operations: 
         name,
         batch,
         expected,
+        order: None,
     }
 }
 
@@ -71,6 +87,7 @@ fn refused(name: &'static str, batch: BatchTexts, verdict: u64, line: usize) -> 
         name,
         batch,
         expected,
+        order: Some(""),
     }
 }
 
@@ -102,11 +119,11 @@ fn worked() -> Vec<Case> {
     );
     let looped = batch(LOOP, "request=1,0,0,0\nresponse=1,1,0\n", "of=1,0,0\n");
     vec![
-        accepted("case C", case_c(), 2, 4),
+        accepted("case C", case_c(), 2, 4).in_order(ORDER_OF_C),
         refused("case B", b, 9, 0),
         refused("case A", a, 9, 0),
-        accepted("all empty", BatchTexts::default(), 0, 0),
-        accepted("the loop", looped, 1, 0),
+        accepted("all empty", BatchTexts::default(), 0, 0).in_order(""),
+        accepted("the loop", looped, 1, 0).in_order("event=1\nevent=2\n"),
     ]
 }
 

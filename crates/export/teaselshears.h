@@ -7,7 +7,7 @@
      that is lent must overlap neither a text nor another buffer.
    - Threads: any number at once. There is no state between two calls.
    - Allocation: none, and no call of the system.
-   - Stack, as measured: 200 KiB for the audit in both forms, 320 KiB for teaselshears_record, 450 KiB for
+   - Stack, as measured: 220 KiB for the audit in its three forms, 320 KiB for teaselshears_record, 450 KiB for
      teaselshears_record_text. Give a thread that calls one of them 1 MiB. */
 #ifndef TEASELSHEARS_H
 #define TEASELSHEARS_H
@@ -43,6 +43,9 @@ enum teaselshears_verdict {
 /* The longest text. A buffer of this length is long enough for every text that the host writes. */
 enum { TEASELSHEARS_TEXT = 65535 };
 
+/* The most numbers that an order has, and the most bytes that teaselshears_audit_text writes. */
+enum { TEASELSHEARS_ORDER = 2304, TEASELSHEARS_PRINTED = 14709 };
+
 /* The verdict on three texts. Verdict, line, requests and operations are written to out[0] to out[3], and 4 is returned;
    with out_length below 4 nothing is written, and 0 is returned. So out[0] means nothing unless 4 was returned: an out
    that was cleared to 0 and is too short looks accepted to whoever does not look at the result. */
@@ -50,6 +53,19 @@ size_t teaselshears_audit(const uint8_t *programs, size_t programs_length,
                           const uint8_t *trace, size_t trace_length,
                           const uint8_t *report, size_t report_length,
                           uint64_t *out, size_t out_length);
+
+/* The verdict on three texts, with an order in which an accepted batch could have gone: every trace line and every operation
+   once, in an order whose plain run gives every response, count and log. Verdict, line, requests and operations are written to
+   out[0] to out[3], to out[4] how many numbers the order has, and to the front of order these numbers, two for each item: the
+   line of a trace event and 0, or the rid of an operation and its number there, which is never 0. Of the items whose forerunners
+   all stand before it, an operation goes before an event, and of several operations the one with the smallest report line number
+   is next. A refused batch has no order: out[4] is 0. Then 5 is returned; with out_length below 5, or order_length too short
+   for the order, which TEASELSHEARS_ORDER never is, nothing is written anywhere, and 0 is returned: out[0] means nothing then. */
+size_t teaselshears_order(const uint8_t *programs, size_t programs_length,
+                          const uint8_t *trace, size_t trace_length,
+                          const uint8_t *report, size_t report_length,
+                          uint64_t *out, size_t out_length,
+                          uint64_t *order, size_t order_length);
 
 /* The run of a schedule. Its trace and its report are written to the fronts of the two buffers, or nothing on a refusal;
    verdict, line and the lengths of the two texts are written to out[0] to out[3], and 4 is returned. With out_length
@@ -60,8 +76,10 @@ size_t teaselshears_record(const uint8_t *programs, size_t programs_length,
                            uint8_t *report, size_t report_length,
                            uint64_t *out, size_t out_length);
 
-/* What the program `audit` prints of three texts, `verdict=0`, `line=0` and so on, written to the front of out. The result
-   is its length, or 0 where out is too short, and then nothing is written; nothing is ever printed that has no byte. */
+/* What the program `audit` prints of three texts, `verdict=0`, `line=0` and so on, and behind these lines the order of an
+   accepted batch, a line `event=n` or `op=rid,num` for each item, written to the front of out. The result is its length, or 0
+   where out is too short, which TEASELSHEARS_PRINTED bytes never are, and then nothing is written; nothing is ever printed that
+   has no byte. */
 size_t teaselshears_audit_text(const uint8_t *programs, size_t programs_length,
                                const uint8_t *trace, size_t trace_length,
                                const uint8_t *report, size_t report_length,

@@ -26,6 +26,19 @@ extern "C" {
         out_length: usize,
     ) -> usize;
 
+    fn teaselshears_order(
+        programs: *const u8,
+        programs_length: usize,
+        trace: *const u8,
+        trace_length: usize,
+        report: *const u8,
+        report_length: usize,
+        out: *mut u64,
+        out_length: usize,
+        order: *mut u64,
+        order_length: usize,
+    ) -> usize;
+
     fn teaselshears_audit_text(
         programs: *const u8,
         programs_length: usize,
@@ -47,13 +60,28 @@ extern "C" {
     ) -> usize;
 }
 
-// SAFETY, of all four: each address comes with the length of the slice that it is the start of; the slices live until the call
+// SAFETY, of all five: each address comes with the length of the slice that it is the start of; the slices live until the call
 // returns, and those that are written to are lent to it alone.
 
 /// Verdict, line, requests and operations to the front of `out`: 4, or 0 where `out` is too short and nothing is written.
 pub fn audit(programs: &[u8], trace: &[u8], report: &[u8], out: &mut [u64]) -> usize {
     let [(p, pn), (t, tn), (r, rn)] = [programs, trace, report].map(|s| (s.as_ptr(), s.len()));
     unsafe { teaselshears_audit(p, pn, t, tn, r, rn, out.as_mut_ptr(), out.len()) }
+}
+
+/// The numbers of `audit` and how many stand in `order` to the front of `out`, and the order of an accepted batch to the front of
+/// `order`, two numbers for each item: an event's trace line and 0, or an operation's rid and num. 5, or 0 where one of the two is too
+/// short and nothing is written.
+pub fn order(
+    programs: &[u8],
+    trace: &[u8],
+    report: &[u8],
+    out: &mut [u64],
+    order: &mut [u64],
+) -> usize {
+    let [(p, pn), (t, tn), (r, rn)] = [programs, trace, report].map(|s| (s.as_ptr(), s.len()));
+    let [(o, on), (q, qn)] = [out, order].map(|s| (s.as_mut_ptr(), s.len()));
+    unsafe { teaselshears_order(p, pn, t, tn, r, rn, o, on, q, qn) }
 }
 
 /// Verdict, line and the lengths of the two texts to the front of `out`, and the texts to the fronts of their buffers: 4, or 0

@@ -1,11 +1,11 @@
 //! The folder that keeps results: one at a time works on it, and what is in it is whole.
 
+use crate::answer::Answer;
 use crate::findings::{Finding, Program};
 use crate::outcome::NotRun;
 use crate::shown;
 use crate::system;
 use crate::texts::{self, Missing, Texts, BATCH};
-use crate::verdicts::Audited;
 use std::ffi::{OsStr, OsString};
 use std::fs::{self, File, OpenOptions};
 use std::io::{self, Read, Write};
@@ -38,7 +38,7 @@ pub struct Prepared {
 /// A result that was kept.
 pub struct Kept {
     pub texts: Texts,
-    audited: Audited,
+    answer: Answer,
     about: About,
 }
 
@@ -101,13 +101,13 @@ impl Results {
         };
         let texts =
             Texts::read(&path, &BATCH, Missing::NotRun).map_err(|NotRun(why)| damaged(&why))?;
-        let audited =
-            Audited::read(&file(c"output")?).ok_or_else(|| damaged(&"output is no verdict"))?;
+        let answer = Answer::read_kept(&file(c"output")?, &texts)
+            .map_err(|what| damaged(&format!("output is {what}")))?;
         let about = About::read(&file(c"about")?)
             .ok_or_else(|| damaged(&"about is not as it was written"))?;
         Ok(Some(Kept {
             texts,
-            audited,
+            answer,
             about,
         }))
     }
@@ -160,7 +160,7 @@ impl Kept {
             sentence: self.about.sentence.clone(),
             program: self.about.program.clone(),
             time: self.about.time.clone(),
-            ..Finding::read(name.to_owned(), self.audited, &self.texts)
+            ..Finding::read(name.to_owned(), self.answer.clone(), &self.texts)
         }
     }
 }

@@ -23,7 +23,7 @@ pub fn of(results: &Results, findings: &Findings) -> Result<String, NotRun> {
     for name in results.names()? {
         rows.entry(name)
             .or_insert_with_key(|name| match results.kept(name) {
-                Ok(Some(kept)) => kept.finding(name),
+                Ok(Some(kept)) => kept.finding(name).without_order(),
                 Ok(None) => Finding::none(
                     name.clone(),
                     State::Failed,

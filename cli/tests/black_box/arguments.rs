@@ -27,7 +27,7 @@ tests![
     bytes_that_are_not_utf8,
 ];
 
-pub const COMMANDS: [&str; 4] = ["audit", "record", "audit-all", "explain"];
+pub const COMMANDS: [&str; 5] = ["audit", "order", "record", "audit-all", "explain"];
 
 /// The program with these arguments, in a folder of its own, which it leaves as it is.
 #[track_caller]
@@ -84,6 +84,7 @@ fn help_among_arguments_and_nothing_done(room: &Room) -> Done {
         &["record", &from, "out", "--help"],
         &["record", "-h", &from, "out"],
         &["audit", &from, "--help"],
+        &["order", &from, "--help"],
         &["audit-all", "--help", &from, "out"],
         &["audit-all", &from, "-h"],
         &["explain", "3", "--help"],
@@ -128,6 +129,7 @@ fn unknown_options(room: &Room) -> Done {
         let named = if option == "-json" { "-j" } else { named };
         untouched(room, &["audit", option, &from]).does_not_take(named);
         untouched(room, &["audit", &from, option]).does_not_take(named);
+        untouched(room, &["order", option, &from]).does_not_take(named);
         untouched(room, &["record", option, &from, "out"]).does_not_take(named);
         untouched(room, &["explain", option, "1"]).does_not_take(named);
     }
@@ -143,6 +145,8 @@ fn options_of_other_commands(room: &Room) -> Done {
     let from = case_c();
     untouched(room, &["audit", "--jobs", "2", &from]).does_not_take("--jobs");
     untouched(room, &["audit", "--list", "refused", &from]).does_not_take("--list");
+    untouched(room, &["order", "--json", &from]).does_not_take("--json");
+    untouched(room, &["order", "-0", &from]).does_not_take("-0");
     untouched(room, &["record", "--json", &from, "out"]).does_not_take("--json");
     untouched(room, &["record", "--jobs=2", &from, "out"]).does_not_take("--jobs");
     untouched(room, &["audit-all", "--missing-as-empty", &from, "out"])
@@ -163,6 +167,9 @@ fn too_few_and_too_many_arguments(room: &Room) -> Done {
         &["audit", "--"],
         &["audit", "--json"],
         &["audit", &from, &from],
+        &["order"],
+        &["order", "--missing-as-empty"],
+        &["order", &from, &from],
         &["record"],
         &["record", &from],
         &["record", &from, "--"],
@@ -185,6 +192,7 @@ fn empty_names(room: &Room) -> Done {
     for arguments in [
         &["audit", ""][..],
         &["audit", "--json", ""],
+        &["order", ""],
         &["record", "", "out"],
         &["record", &from, ""],
         &["audit-all", "", "out"],

@@ -3,7 +3,8 @@
 use crate::harness::{tests, Done, Skipped};
 use crate::json::{only_object, text, Object, Value};
 use crate::room::{
-    audited_examples, check_recorded, example, examples, expected, names_in, read, Room,
+    audited_examples, check_recorded, example, examples, expected, expected_order, names_in, read,
+    Room,
 };
 use crate::run::{audit, program, proved_program, record, Run};
 use std::collections::BTreeSet;
@@ -152,6 +153,11 @@ fn audit_in_json_of_every_example(_: &Room) -> Done {
             let number = number(&expected(&name), key).unwrap();
             assert_eq!(object[key], Value::Number(number), "{key} of {name}");
         }
+        let order = match state {
+            "accepted" => Value::Lines(expected_order(&name)),
+            _ => Value::Null,
+        };
+        assert_eq!(object["order"], order, "{name}");
         check_place(&name, &object);
     }
     Ok(())

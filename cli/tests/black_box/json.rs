@@ -1,4 +1,5 @@
-//! A reader for the JSON objects that the program prints: flat ones, of strings, whole numbers, lists of bytes and null.
+//! A reader for the JSON objects that the program prints: flat ones, of strings, whole numbers, lists of bytes or of strings,
+//! and null.
 
 use std::collections::BTreeMap;
 use std::iter::Peekable;
@@ -11,12 +12,14 @@ pub enum Value {
     Text(String),
     /// A name that is not UTF-8.
     Bytes(Vec<u8>),
+    /// The lines of an order; there may be none.
+    Lines(Vec<String>),
 }
 
 pub type Object = BTreeMap<String, Value>;
 
 /// The keys that every object has.
-pub const KEYS: [&str; 12] = [
+pub const KEYS: [&str; 13] = [
     "batch",
     "state",
     "verdict",
@@ -25,6 +28,7 @@ pub const KEYS: [&str; 12] = [
     "bytes",
     "requests",
     "operations",
+    "order",
     "sentence",
     "version",
     "library",
@@ -98,7 +102,7 @@ fn value(rest: &mut Peekable<Chars>) -> Option<Value> {
         return string(rest).map(Value::Text);
     }
     if rest.next_if_eq(&'[').is_some() {
-        return list(rest).map(Value::Bytes);
+        return list(rest);
     }
     let mut word = String::new();
     while let Some(c) = rest.next_if(char::is_ascii_alphanumeric) {
@@ -111,21 +115,32 @@ fn value(rest: &mut Peekable<Chars>) -> Option<Value> {
     word.parse().ok().filter(|_| plain).map(Value::Number)
 }
 
-/// The bytes of a list that has at least one.
-fn list(rest: &mut Peekable<Chars>) -> Option<Vec<u8>> {
-    let mut bytes = Vec::new();
+/// A list that was begun: of bytes, at least one, or of strings.
+fn list(rest: &mut Peekable<Chars>) -> Option<Value> {
+    let mut values = Vec::new();
+    if take(rest, ']').is_some() {
+        return Some(Value::Lines(Vec::new()));
+    }
     loop {
-        let Value::Number(byte) = value(rest)? else {
-            return None;
-        };
-        bytes.push(u8::try_from(byte).ok()?);
+        values.push(value(rest)?);
         blanks(rest);
         match rest.next()? {
             ',' => {}
-            ']' => return Some(bytes),
+            ']' => break,
             _ => return None,
         }
     }
+    let byte = |value: &Value| match value {
+        Value::Number(byte) => u8::try_from(*byte).ok(),
+        _ => None,
+    };
+    let line = |value: &Value| match value {
+        Value::Text(line) => Some(line.clone()),
+        _ => None,
+    };
+    let bytes: Option<Vec<u8>> = values.iter().map(byte).collect();
+    let lines: Option<Vec<String>> = values.iter().map(line).collect();
+    bytes.map(Value::Bytes).or(lines.map(Value::Lines))
 }
 
 fn string(rest: &mut Peekable<Chars>) -> Option<String> {

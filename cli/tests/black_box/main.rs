@@ -17,6 +17,8 @@ mod kills;
 mod launcher;
 mod library;
 mod many;
+mod order;
+mod order_answers;
 mod record;
 mod results;
 mod room;
@@ -45,6 +47,8 @@ fn main() -> ExitCode {
         examples::TESTS,
         arguments::TESTS,
         identity::TESTS,
+        order::TESTS,
+        order_answers::TESTS,
         texts::TESTS,
         unreadable::TESTS,
         streams::TESTS,

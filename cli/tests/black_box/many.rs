@@ -2,7 +2,7 @@
 
 use crate::harness::{skip, tests, Done};
 use crate::json::{objects, text, Object, Value};
-use crate::room::{copy_folder, example, Room};
+use crate::room::{copy_folder, example, expected_order, Room};
 use crate::run::{needs, program, shell, Ended, Run, PROGRAM};
 use std::ffi::OsStr;
 use std::fs::{self, File};
@@ -120,6 +120,9 @@ fn a_folder_that_is_not_there_among_them(room: &Room) -> Done {
         (&objects[1]["verdict"], &objects[1]["requests"]),
         (&Value::Null, &Value::Null)
     );
+    let orders: Vec<&Value> = objects.iter().map(|object| &object["order"]).collect();
+    let good = Value::Lines(expected_order("case-c"));
+    assert_eq!(orders, [&good, &Value::Null, &Value::Null, &Value::Null]);
     let alone = program("audit")
         .arg("nowhere")
         .current_dir(room.path(""))

@@ -210,7 +210,13 @@ fn check_row_of(results: &Path, name: &OsStr, rows: &[Row]) {
         "verdict={}\nline={}\nrequests={}\noperations={}\n",
         row.verdict, row.line, row.requests, row.operations
     );
-    assert_eq!(said.as_bytes(), read(kept.join("output")), "{row:?}");
+    let output = String::from_utf8(read(kept.join("output"))).unwrap();
+    let behind = output.strip_prefix(&said);
+    // Behind the numbers stands the order, which the table does not have.
+    assert!(
+        behind.is_some_and(|order| row.state == "accepted" || order.is_empty()),
+        "{row:?}: {output}"
+    );
     let lines = read(kept.join("about"));
     assert_eq!(
         (&row.time, &row.sentence),

@@ -100,6 +100,12 @@ pub fn expected(name: &str) -> Vec<u8> {
     read(example(name).join("expected"))
 }
 
+/// The order that an example must be printed with, line by line; none where it is refused.
+pub fn expected_order(name: &str) -> Vec<String> {
+    let printed = String::from_utf8(expected(name)).unwrap();
+    printed.lines().skip(4).map(String::from).collect()
+}
+
 pub fn read(path: impl AsRef<Path>) -> Vec<u8> {
     let path = path.as_ref();
     fs::read(path).unwrap_or_else(|error| panic!("{}: {error}", path.display()))

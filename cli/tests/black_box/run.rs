@@ -43,6 +43,10 @@ pub fn audit(folder: impl AsRef<Path>) -> Ended {
     program("audit").arg(folder.as_ref()).end()
 }
 
+pub fn order(folder: impl AsRef<Path>) -> Ended {
+    program("order").arg(folder.as_ref()).end()
+}
+
 pub fn record(folder: impl AsRef<Path>, out: impl AsRef<Path>) -> Ended {
     program("record")
         .args([folder.as_ref(), out.as_ref()])

@@ -3,7 +3,9 @@
 use crate::harness::{tests, Done};
 use crate::json::{objects, only_object, text, Object, Value};
 use crate::results::{check_all_kept, check_stays, kept, row, states};
-use crate::room::{audited_examples, copy_folder, example, expected, names_in, read, Room};
+use crate::room::{
+    audited_examples, copy_folder, example, expected, expected_order, names_in, read, Room,
+};
 use crate::run::{audit, audit_all, needs, program, Run, PROGRAM};
 use std::collections::BTreeMap;
 use std::fs;
@@ -134,6 +136,9 @@ fn json_of_every_batch(room: &Room) -> Done {
             (&failed["state"], &failed["verdict"]),
             (&text("failed"), &Value::Null)
         );
+        assert_eq!(failed["order"], Value::Null);
+        let order = Value::Lines(expected_order("case-c"));
+        assert_eq!(objects["case-c"]["order"], order);
         assert_eq!(objects.len(), audited_examples().len());
         for (name, object) in objects {
             let alone = program("audit").arg("--json").arg(spool.join(&name)).end();

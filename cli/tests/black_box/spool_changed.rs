@@ -1,9 +1,10 @@
 //! Batches that fail, batches that change, and kept results that are damaged: none of them is ever accepted.
 
 use crate::harness::{tests, Done};
+use crate::json::{objects, text, Value};
 use crate::results::{check_all_kept, check_kept, kept, row, states};
-use crate::room::{copy_folder, example, names, names_in, read, tree, Room, TEXTS};
-use crate::run::{audit, audit_all, Ended};
+use crate::room::{copy_folder, example, expected_order, names, names_in, read, tree, Room, TEXTS};
+use crate::run::{audit, audit_all, program, Ended, Run};
 use std::fs;
 use std::os::unix::fs::symlink;
 use std::path::{Path, PathBuf};
@@ -17,6 +18,8 @@ tests![
     a_batch_that_loses_a_text,
     a_refused_batch_that_becomes_good,
     a_kept_result_whose_output_is_empty,
+    a_kept_result_whose_order_is_damaged,
+    a_kept_result_from_before_there_was_an_order,
     a_kept_result_that_lacks_a_file,
     a_kept_result_with_another_text,
     a_kept_result_that_is_a_file,
@@ -248,6 +251,44 @@ fn a_kept_result_whose_output_is_empty(room: &Room) -> Done {
         fs::write(results.join("batches/batch-2/output"), output).unwrap();
         damaged(&spool, &results, "batch-2");
     }
+    Ok(())
+}
+
+fn a_kept_result_whose_order_is_damaged(room: &Room) -> Done {
+    let (spool, results) = kept_spool(room);
+    let whole = String::from_utf8(read(results.join("batches/batch-2/output"))).unwrap();
+    for output in [
+        whole.strip_suffix("event=4\n").unwrap(),
+        whole.strip_suffix('\n').unwrap(),
+        &format!("{whole}\n"),
+        &whole.replace("op=2,2\n", ""),
+        &whole.replace("op=2,2\n", "op=2\n"),
+        &whole.replace("verdict=0\n", "verdict=9\n"),
+    ] {
+        fs::write(results.join("batches/batch-2/output"), output).unwrap();
+        damaged(&spool, &results, "batch-2");
+    }
+    Ok(())
+}
+
+/// What an earlier version kept has the verdict lines alone: it stays, and is as it was, with no order.
+fn a_kept_result_from_before_there_was_an_order(room: &Room) -> Done {
+    let (spool, results) = kept_spool(room);
+    let earlier = "verdict=0\nline=0\nrequests=2\noperations=4\n";
+    fs::write(results.join("batches/batch-2/output"), earlier).unwrap();
+    let before = kept(&results);
+    let mut program = program("audit-all");
+    let ended = program.arg("--json").arg(&spool).arg(&results).end();
+    for object in objects(&ended.is(0).stdout) {
+        let order = match object["batch"] == text("batch-2") {
+            true => Value::Null,
+            false => Value::Lines(expected_order("case-c")),
+        };
+        assert_eq!(object["order"], order);
+        assert_eq!(object["operations"], Value::Number(4));
+    }
+    assert_eq!(kept(&results), before, "nothing is audited again");
+    assert_eq!(row(&results, "batch-2").state, "accepted");
     Ok(())
 }
 

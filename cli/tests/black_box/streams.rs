@@ -33,6 +33,7 @@ fn commands(room: &Room) -> Vec<Vec<String>> {
     let lines = [
         vec!["audit", &case_c],
         vec!["audit", &case_b],
+        vec!["order", &case_c],
         vec!["audit", "--json", &case_c],
         vec!["audit", "--json", &case_b],
         vec!["audit-all", "--json", &spool, &results],

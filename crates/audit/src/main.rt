@@ -9,19 +9,17 @@ use verifier::audit_text;
 ghost use mathlib.Core.Path.{_≡_};
 ghost use lib.ListN.{length};
 ghost use Rattle.lines.specs.Put.{front};
-ghost use Rattle.verifier.specs.Faults.{auditOf};
-ghost use Rattle.verifier.specs.Printed.{auditedText, mostPrinted};
+ghost use Rattle.verifier.specs.Printed.{printedText, mostPrinted};
 
 // As much as is ever printed (`mostPrinted`).
-const ROOM: usize = 117;
+const ROOM: usize = 14709;
 
 // What is printed, to the front of out, and how long it is. It has room whatever the texts are.
 fn fill(programs: &[u8], trace: &[u8], report: &[u8], out: &mut [u8; ROOM]) -> usize
     requires { ⌜ length (now out) ≡ mostPrinted ⌝ }
-    ensures count { λ r. ⌜ r ≡ length
-        (auditedText (auditOf (now (programs .entry)) (now (trace .entry)) (now (report .entry)))) ⌝ }
+    ensures count { λ r. ⌜ r ≡ length (printedText (now (programs .entry)) (now (trace .entry)) (now (report .entry))) ⌝ }
     ensures bytes { λ _. ⌜ now (out .exit) ≡ front
-        (auditedText (auditOf (now (programs .entry)) (now (trace .entry)) (now (report .entry)))) (now (out .entry)) ⌝ }
+        (printedText (now (programs .entry)) (now (trace .entry)) (now (report .entry))) (now (out .entry)) ⌝ }
     ensures room { λ _. ⌜ length (now (out .exit)) ≡ length (now (out .entry)) ⌝ }
 {
     written(audit_text(programs, trace, report, out))

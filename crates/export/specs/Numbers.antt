@@ -1,7 +1,7 @@
 -- What the functions leave in the slices that a caller lends. Assumes nothing.
 use Prim.Native.Nat.{ℕ}
-use mathlib.Core.Bool.{cond}
-use mathlib.Core.List.{List, [], _∷_}
+use mathlib.Core.Bool.{cond, _||_}
+use mathlib.Core.List.{List, [], _∷_, _++_}
 use mathlib.Core.Path.{_≡_}
 use lib.Dec.{ltb}
 use lib.ListN.{length, getD}
@@ -14,6 +14,10 @@ use Rattle.host.specs.declared.Recorded.{Recorded}
 -- x where s has room for the four numbers of a result, else y
 unfoldable pub ifRoom : {A : Type 0} → List ℕ → (x y : A) → A
 ifRoom s x y = cond (ltb (length s) 4) y x
+
+-- x where out has room for five numbers and order for t, else y
+unfoldable pub ifBoth : {A : Type 0} → (out t order : List ℕ) → (x y : A) → A
+ifBoth out t order x y = cond (ltb (length out) 5 || ltb (length order) (length t)) y x
 
 -- s with the four numbers v in front, where it has room for them
 abbrev pub handed : (v s : List ℕ) → List ℕ
@@ -37,3 +41,10 @@ pub record RecordHanded (x : Result Texts) (trace report out traceAfter reportAf
   pub numbers : outAfter ≡ handed (recordNumbers (resultOf x)) out
   pub traceBytes : traceAfter ≡ ifRoom out (front (writtenOf x .trace) trace) trace
   pub reportBytes : reportAfter ≡ ifRoom out (front (writtenOf x .report) report) report
+
+-- the audit's result with an order t, in numbers: in out the four of the result and how long t is, in order t, and r numbers in all; where
+-- out has no room for five, or order none for t, everything is as it was
+pub record OrderHanded (a : Audited) (t out order outAfter orderAfter : List ℕ) (r : ℕ) : Type 0 where
+  pub count : r ≡ ifBoth out t order 5 0
+  pub numbers : outAfter ≡ ifBoth out t order (front (auditNumbers a ++ (length t ∷ [])) out) out
+  pub items : orderAfter ≡ ifBoth out t order (front t order) order

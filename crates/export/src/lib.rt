@@ -1,6 +1,7 @@
 // The audit and the reference host for programs in Rust and C. A slice passes as its address and its length, a number as itself.
 mod numbers;
 
+use lines::Put;
 use lines::written;
 use numbers::fill_four;
 ghost use mathlib.Core.Path.{_≡_};
@@ -8,11 +9,13 @@ ghost use mathlib.Core.Logic.{_↔_};
 ghost use lib.ListN.{getD, length};
 ghost use Rattle.verifier.specs.Accepts.{Accepts};
 ghost use Rattle.verifier.specs.Faults.{auditOf};
-ghost use Rattle.verifier.specs.Printed.{auditedText};
+ghost use Rattle.verifier.specs.Order.{orderOf, orderNumbers};
+ghost use Rattle.verifier.specs.OrderRead.{OrderRead};
+ghost use Rattle.verifier.specs.Printed.{printedText};
 ghost use Rattle.host.specs.Accepted.{Accepted};
 ghost use Rattle.host.specs.Printed.{recordedText};
 ghost use Rattle.host.specs.Recorded.{recordOf};
-ghost use Rattle.export.specs.Numbers.{ifRoom, handed, auditNumbers, recordFrom, RecordHanded};
+ghost use Rattle.export.specs.Numbers.{ifRoom, handed, auditNumbers, recordFrom, RecordHanded, OrderHanded};
 ghost use Rattle.export.specs.Printed.{PrintedIs};
 
 // The verdict on three texts: verdict, line, requests and operations to the front of out. The result is how many numbers were
@@ -36,6 +39,44 @@ pub extern "C" fn teaselshears_audit(
     let a = verifier::audit(programs, trace, report);
     fill_four(out, a.verdict, a.line, a.requests, a.operations);
     4
+}
+
+// The verdict on three texts with the order of an accepted batch: verdict, line, requests, operations and how many numbers the order has to
+// the front of out, and these, two for each item, to the front of order. The result is how many numbers were written to out: five, or none
+// where out or order is too short, and then neither is touched.
+#[no_mangle]
+pub extern "C" fn teaselshears_order(
+    programs: &[u8],
+    trace: &[u8],
+    report: &[u8],
+    out: &mut [u64],
+    order: &mut [u64],
+) -> usize
+    ensures meaning { λ r. ⌜ OrderHanded (auditOf (now (programs .entry)) (now (trace .entry)) (now (report .entry)))
+        (orderNumbers 1 (orderOf (now (programs .entry)) (now (trace .entry)) (now (report .entry))))
+        (now (out .entry)) (now (order .entry)) (now (out .exit)) (now (order .exit)) r ⌝ }
+    ensures read { λ r. ⌜ ((r ≡ 5) → (getD (now (out .exit)) 0 0 ≡ 0) →
+        OrderRead (now (programs .entry)) (now (trace .entry)) (now (report .entry))
+        (orderOf (now (programs .entry)) (now (trace .entry)) (now (report .entry)))) ⌝ }
+{
+    if out.len() < 5 {
+        return 0;
+    }
+    let r = verifier::audit_order(programs, trace, report, order);
+    let written = r.order;
+    let Put::Wrote(n) = written else {
+        return 0;
+    };
+    let found = r.audited;
+    fill_four(
+        out,
+        found.verdict,
+        found.line,
+        found.requests,
+        found.operations,
+    );
+    out[4] = n as u64;
+    5
 }
 
 // The run of a schedule: its trace and its report to the fronts of two buffers, and verdict, line and the two lengths to the front of out.
@@ -77,8 +118,7 @@ pub extern "C" fn teaselshears_audit_text(
     report: &[u8],
     out: &mut [u8],
 ) -> usize
-    ensures { λ r. ⌜ PrintedIs
-        (auditedText (auditOf (now (programs .entry)) (now (trace .entry)) (now (report .entry))))
+    ensures { λ r. ⌜ PrintedIs (printedText (now (programs .entry)) (now (trace .entry)) (now (report .entry)))
         (now (out .entry)) (now (out .exit)) r ⌝ }
 {
     written(verifier::audit_text(programs, trace, report, out))

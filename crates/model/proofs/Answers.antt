@@ -15,7 +15,7 @@ use Rattle.model.specs.Answers.{answerOf, loggedAnswer}
 use Rattle.model.specs.Batch.{Batch, claims, Node, ev, ln}
 use Rattle.model.specs.Machine.{op, Machine}
 use Rattle.model.specs.Nodes.{lane, nodes}
-use Rattle.model.specs.Orders.{itemOf}
+use Rattle.model.specs.ByRule.{itemOf}
 use Rattle.model.specs.PlainRun.{opened, State, initial, arrived, lineNow, operated, replied}
 use Rattle.model.specs.Replay.{Claim, by, claim}
 use Rattle.model.proofs.Ahead.{Ahead, ahead-next}

@@ -29,6 +29,7 @@ pub mod Ranges
 -- The orders of an accepted batch
 pub mod Weaker
 pub mod Printed
+pub mod ByRule
 pub mod Closing
 pub mod Answers
 pub mod Orders

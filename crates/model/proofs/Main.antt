@@ -13,18 +13,19 @@ use Rattle.model.specs.Audit.{audit}
 use Rattle.model.specs.Claims.{NoneTo8}
 use Rattle.model.specs.Batch.{Batch, logOf, Node}
 use Rattle.model.specs.Bounds.{Within, Bounded}
+use Rattle.model.specs.ByRule.{itemOf, ByRule}
 use Rattle.model.specs.Checks.{verdict}
 use Rattle.model.specs.Demand.{Demand3}
 use Rattle.model.specs.Host.{made, recorded}
 use Rattle.model.specs.Machine.{Machine}
 use Rattle.model.specs.Nodes.{nodes, mergeOf}
-use Rattle.model.specs.Orders.{itemOf, OrderOf}
+use Rattle.model.specs.Orders.{OrderOf}
 use Rattle.model.specs.PlainRun.{Item, initial}
 use Rattle.model.specs.Precedes.{Leads, Returns, ReturnsWeakly}
 use Rattle.model.specs.Ranges.{FitMove, FitBatch}
 use Rattle.model.specs.Replay.{claim}
 use Rattle.model.proofs.Audited.{audit-demand, audit-zero, audit-nine, audit-nine-line}
-use Rattle.model.proofs.Orders.{allowed-orders, same-answers, same-contents, one-printed, printed-allowed}
+use Rattle.model.proofs.Orders.{allowed-orders, same-answers, same-contents, one-printed, printed-allowed, one-by-rule, rule-allowed}
 use Rattle.model.proofs.Ranges.{recorded-fit}
 use Rattle.model.proofs.Recorded.{recorded-accepted}
 use Rattle.model.proofs.Weaker.{audit-nine-weaker}
@@ -83,3 +84,11 @@ module _ (M : Machine) (opening : ℕ → M .Content) (known : ℕ → Bool) whe
     pub printed-is-allowed : (order : List Node) → Greedy (Leads b) (nodes b) order →
         OrderOf b order × ((a : Allowed M opening b) × (a .order ≡ map itemOf order))
     printed-is-allowed = printed-allowed M opening known b v
+
+    -- The merge's order is by the rule of P1, and any order by the rule is this one.
+    pub by-rule : (order : List Node) → ByRule b order ↔ (order ≡ mergeOf b .0)
+    by-rule = one-by-rule M opening known b v
+
+    -- So an order by the rule is allowed.
+    pub rule-is-allowed : (order : List Node) → ByRule b order → (a : Allowed M opening b) × (a .order ≡ map itemOf order)
+    rule-is-allowed = rule-allowed M opening known b v

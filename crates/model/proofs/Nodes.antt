@@ -11,7 +11,7 @@ use Rattle.ordering.proofs.Basics.{byBool}
 use Rattle.model.specs.Allowed.{eventsOf}
 use Rattle.model.specs.Batch.{Batch, logOf, Node, ev, ln}
 use Rattle.model.specs.Nodes.{lane, nodes}
-use Rattle.model.specs.Orders.{itemOf}
+use Rattle.model.specs.ByRule.{itemOf}
 
 -- the events of an order, and the lines of one object
 abbrev pub eventsIn : List Node → List Event

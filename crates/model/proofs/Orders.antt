@@ -10,15 +10,17 @@ use Rattle.model.specs.Allowed.{Allowed}
 use Rattle.model.specs.Answers.{written, answerOf, loggedAnswer}
 use Rattle.model.specs.Audit.{audit}
 use Rattle.model.specs.Batch.{Batch, logOf, Node}
+use Rattle.model.specs.ByRule.{itemOf, ByRule}
 use Rattle.model.specs.Checks.{verdict}
 use Rattle.model.specs.Machine.{Machine}
 use Rattle.model.specs.Nodes.{nodes, mergeOf}
-use Rattle.model.specs.Orders.{itemOf, OrderOf}
+use Rattle.model.specs.Orders.{OrderOf}
 use Rattle.model.specs.PlainRun.{Item, initial}
 use Rattle.model.specs.Precedes.{Leads}
 use Rattle.model.specs.Replay.{claim}
 use Rattle.model.proofs.Answers.{logged-answers}
 use Rattle.model.proofs.Audited.{Accepted, accepted-formed, audit-accepted}
+use Rattle.model.proofs.ByRule.{only-by-rule}
 use Rattle.model.proofs.Closing.{closing}
 use Rattle.model.proofs.Placed.{place}
 use Rattle.model.proofs.Printed.{printed-order}
@@ -49,8 +51,19 @@ module _ (M : Machine) (opening : ℕ → M .Content) (known : ℕ → Bool) (b 
   pub one-printed : (order : List Node) → Greedy (Leads b) (nodes b) order ↔ (order ≡ mergeOf b .0)
   one-printed = printed-order b formed (accepted .passes .reported) (accepted .passes .merged)
 
+  pub one-by-rule : (order : List Node) → ByRule b order ↔ (order ≡ mergeOf b .0)
+  one-by-rule = only-by-rule b formed (accepted .passes .reported) (accepted .passes .merged)
+
+  -- the merge's order is an order of the items, and allowed
+  merge-allowed : (order : List Node) → order ≡ mergeOf b .0 →
+      OrderOf b order × ((a : Allowed M opening b) × (a .order ≡ map itemOf order))
+  merge-allowed order e =
+      let o : OrderOf b order = subst (OrderOf b) (sym e) (merge-is-order M opening b formed (accepted .passes)) in
+      (o, order-allowed M opening b formed (accepted .passes) order o)
+
   pub printed-allowed : (order : List Node) → Greedy (Leads b) (nodes b) order →
       OrderOf b order × ((a : Allowed M opening b) × (a .order ≡ map itemOf order))
-  printed-allowed order g =
-      let o : OrderOf b order = subst (OrderOf b) (sym (one-printed order .0 g)) (merge-is-order M opening b formed (accepted .passes)) in
-      (o, order-allowed M opening b formed (accepted .passes) order o)
+  printed-allowed order g = merge-allowed order (one-printed order .0 g)
+
+  pub rule-allowed : (order : List Node) → ByRule b order → (a : Allowed M opening b) × (a .order ≡ map itemOf order)
+  rule-allowed order r = merge-allowed order (one-by-rule order .0 r) .1

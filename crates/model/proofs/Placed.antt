@@ -9,7 +9,8 @@ use Rattle.ordering.specs.Lists.{All, tally}
 use Rattle.ordering.specs.Maps.{upd}
 use Rattle.ordering.specs.Order.{Numbered}
 use Rattle.ordering.specs.Merge.{bump}
-use Rattle.model.specs.Orders.{itemOf, OrderOf}
+use Rattle.model.specs.ByRule.{itemOf}
+use Rattle.model.specs.Orders.{OrderOf}
 use Rattle.ordering.specs.Whole.{keyed}
 use Rattle.ordering.proofs.Basics.{byBool, same-or, eqb-self, upd-same, upd-other}
 use Rattle.ordering.proofs.Lanes.{all-lanes, tally-lanes}

@@ -14,7 +14,7 @@ use Rattle.ordering.proofs.Basics.{clash, byBool, byEq, same-or, and-true, yes-
 use Rattle.model.specs.Allowed.{eventsOf}
 use Rattle.model.specs.Batch.{requested, Node, ev, ln}
 use Rattle.model.specs.Machine.{Next, op, stop, Machine}
-use Rattle.model.specs.Orders.{itemOf}
+use Rattle.model.specs.ByRule.{itemOf}
 use Rattle.model.specs.PlainRun.{
   Item,
   event,

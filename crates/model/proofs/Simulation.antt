@@ -11,7 +11,7 @@ use Rattle.ordering.specs.Lists.{All}
 use Rattle.ordering.specs.Maps.{upd}
 use Rattle.ordering.specs.Order.{Numbered}
 use Rattle.ordering.specs.Merge.{bump}
-use Rattle.model.specs.Orders.{itemOf}
+use Rattle.model.specs.ByRule.{itemOf}
 use Rattle.model.specs.Batch.{Node, ev, ln}
 use Rattle.ordering.proofs.Basics.{clash, byBool, byEq, eqb-self, upd-same, upd-other}
 use Rattle.ordering.proofs.Numbers.{bump-same, bump-other, reached}

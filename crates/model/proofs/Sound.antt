@@ -18,7 +18,8 @@ use Rattle.model.specs.Allowed.{Allowed}
 use Rattle.model.specs.Batch.{Batch, countOf, firstOf, Node, ev, ln}
 use Rattle.model.specs.Machine.{Machine}
 use Rattle.model.specs.Nodes.{lane, rid, num, nodes, mergeOf}
-use Rattle.model.specs.Orders.{itemOf, OrderOf}
+use Rattle.model.specs.ByRule.{itemOf}
+use Rattle.model.specs.Orders.{OrderOf}
 use Rattle.model.specs.PlainRun.{Phase, absent, opened, closed, initial, operationsOf, pathOf}
 use Rattle.model.specs.Replay.{Reply, silent, said, responseOf, Outcome, differs, ended, Claim, claim, outcome}
 use Rattle.model.proofs.Ahead.{foretold-log}

@@ -10,8 +10,10 @@ pub mod PlainRun
 pub mod Allowed
 pub mod Demand
 pub mod Answers
--- The audit: "comes before", checks in order, the replay, the rows of the table
+-- "Comes before", and an order to read
 pub mod Precedes
+pub mod ByRule
+-- The audit: checks in order, the merge, the replay, the rows of the table
 pub mod Checks
 pub mod Nodes
 pub mod Orders

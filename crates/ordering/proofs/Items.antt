@@ -1,7 +1,7 @@
 -- For the layer above: the merge of positions is the merge of what stands there, however the requests are named.
 use mathlib.Core.Path.{_≡_, refl, sym, ap, _∙_}
 use mathlib.Core.Logic.{_↔_}
-use mathlib.Core.Bool.{_&&_, not}
+use mathlib.Core.Bool.{true, _&&_, not}
 use mathlib.Core.List.{List, [], _∷_, map}
 use Prim.Native.Nat.{ℕ, zero, suc, _+_, _≤_, _<_}
 use lib.Dec.{eqb}
@@ -12,7 +12,8 @@ use Rattle.ordering.specs.Order.{IsOrder}
 use Rattle.ordering.specs.Merge.{among, bump, Pick, stuck, took, keep, pick, merge, mergeAll}
 use Rattle.ordering.specs.Positions.{upFrom, slot, value, mergeOf, counts}
 use Rattle.ordering.proofs.Basics.{byBool, byEq}
-use Rattle.ordering.proofs.Lanes.{all-lanes}
+use Rattle.ordering.proofs.Lanes.{all-lanes, tally-lanes}
+use Rattle.ordering.proofs.Lists.{tally-all}
 use Rattle.ordering.proofs.Numbers.{bump-same, bump-other}
 use Rattle.ordering.proofs.Orders.{merge-stuck, merge-took, picked, merge-order, order-merge}
 use Rattle.ordering.proofs.Merging.{up-length}
@@ -152,3 +153,14 @@ module _ (lane request number : List ℕ) (n : ℕ) where
     λ o. ap length (order-merge (slot lane 17) (slot request 64) (value number) n (λ r. 0) (upFrom 0 n) (o .0)
         (omega (arith, up-length 0 n)) (o .1)),
   )
+
+  -- and where none is, each position stands in the order, and no other
+  pub whole-order : counts (mergeOf lane request number n) .left ≡ 0 →
+      (length (mergeOf lane request number n .0) ≡ n) × All (λ i. i < n) (mergeOf lane request number n .0)
+  unfolding mergeOf none-left
+  whole-order e =
+      let order = mergeOf lane request number n .0 in
+      let o = none-left .0 e .1 .lanes in (
+        sym (tally-all order) ∙ tally-lanes (slot lane 17) (λ i. true) order (upFrom 0 n) o ∙ tally-all (upFrom 0 n) ∙ up-length 0 n,
+        all-lanes (slot lane 17) (λ i. i < n) order (upFrom 0 n) o (all-below 0 n n (omega arith)),
+      )

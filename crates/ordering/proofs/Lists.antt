@@ -1,7 +1,7 @@
 -- What holds of all items of a list, how many pass a test, and where an item stands.
 use mathlib.Core.Path.{_≡_, refl, sym, ap, subst, _∙_}
 use mathlib.Core.Logic.{_⊎_, inl, inr}
-use mathlib.Core.Bool.{Bool, true}
+use mathlib.Core.Bool.{Bool, true, false}
 use mathlib.Core.List.{
   List,
   [],
@@ -18,6 +18,7 @@ use mathlib.Core.List.{
 }
 use Prim.Native.Nat.{_+_, _≤_}
 use native.Mathlib.Omega.{arith}
+use lib.ListN.{length}
 use Rattle.ordering.specs.Lists.{All, tally, Neighbours, Later}
 
 -- ── all items ──
@@ -58,6 +59,18 @@ all-any P f [] = tt
 all-any P f (x ∷ xs) = (f x, all-any P f xs)
 
 -- ── how many pass a test ──
+pub tally-all : {A : Type 0} (xs : List A) → tally (λ x. true) xs ≡ length xs
+tally-all [] = refl
+tally-all (x ∷ xs) = omega (arith, tally-all xs)
+
+pub tally-no : {A : Type 0} (xs : List A) → tally (λ x. false) xs ≡ 0
+tally-no [] = refl
+tally-no (x ∷ xs) = omega (arith, tally-no xs)
+
+pub tally-map : {A B : Type 0} (f : B → Bool) (g : A → B) (xs : List A) → tally f (map g xs) ≡ tally (λ x. f (g x)) xs
+tally-map f g [] = refl
+tally-map f g (x ∷ xs) = omega (arith, tally-map f g xs)
+
 module _ {A : Type 0} (f : A → Bool) where
   pub tally-append : (xs ys : List A) → tally f (xs ++ ys) ≡ tally f xs + tally f ys
   tally-append [] ys = omega arith

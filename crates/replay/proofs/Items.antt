@@ -1,11 +1,12 @@
 -- The items of a batch in arrays, and that the merge of the arrays is the merge of the batch.
 use mathlib.Core.Bool.{Bool, true, false, not}
 use mathlib.Core.List.{List, [], _∷_, map}
+use mathlib.Core.Option.{none}
 use mathlib.Core.Path.{_≡_, refl, sym, ap, subst, _∙_}
 use Prim.Native.Nat.{ℕ, zero, suc, _+_, _-_, _%_, _≤_, _<_, min}
 use borrow.Author.Tests.{ltb-true, ltb-false, ne-eqb}
 use lib.Dec.{eqb, ltb}
-use lib.ListN.{getD, set, take, length, length-set, length-take, length-append, List·getD-append}
+use lib.ListN.{getD, set, take, drop, length, length-set, length-take, length-append, List·getD-append}
 use lib.Seq.{getD-set-same, getD-set-other, getD-append-add, getD-take}
 use native.Mathlib.Nat.{mod-eq-of-lt}
 use native.Mathlib.Omega.{arith}
@@ -15,13 +16,14 @@ use Rattle.text.specs.Scans.{FirstFrom}
 use Rattle.text.specs.declared.report.Of.{Of}
 use Rattle.text.specs.declared.trace.Event.the-variants.{Request, Response}
 use Rattle.text.specs.declared.trace.Event.{Event}
-use Rattle.text.proofs.RowLaws.{firsts-length, firsts-front, firsts-at}
+use Rattle.text.proofs.RowLaws.{firsts-length, firsts-same, firsts-front, firsts-at, firsts-getD}
 use Rattle.text.proofs.ScanLaws.{one-place}
 use Rattle.ordering.specs.Lists.{All}
-use Rattle.ordering.specs.Positions.{slot, mergeOf, countsOf}
+use Rattle.ordering.specs.Merge.{mergeAll}
+use Rattle.ordering.specs.Positions.{slot, mergeOf, overFront, orderIn, countsOf}
 use Rattle.ordering.specs.declared.Merged.{Merged}
-use Rattle.ordering.proofs.Basics.{clash, byBool, same-or, eqb-yes, yes-eqb}
-use Rattle.ordering.proofs.Items.{Held, merge-items}
+use Rattle.ordering.proofs.Basics.{clash, byBool, byEq, same-or, eqb-yes, yes-eqb}
+use Rattle.ordering.proofs.Items.{Held, both, merge-items, whole-order}
 use Rattle.ordering.proofs.Lists.{mem-all}
 use Rattle.model.specs.Audit.{leftOver}
 use Rattle.model.specs.Batch.{Batch, countOf, Node, ev, ln}
@@ -29,8 +31,8 @@ use Rattle.model.specs.Checks.{breaks}
 use Rattle.model.specs.Nodes.{lane, rid, num, nodes}
 use Rattle.model.proofs.Claims.{Counted, counted-mem, row7-lines}
 use Rattle.model.proofs.Requests.{Named, events-named}
-use Rattle.replay.specs.Judges.{batchHeld, Ready}
-use Rattle.replay.specs.Promises.{nodeAt, laneIn, numberIn, ItemIs, ItemsTo, Returns}
+use Rattle.replay.specs.Judges.{batchHeld, nodeAt, Ready, Orders}
+use Rattle.replay.specs.Promises.{laneIn, numberIn, ItemIs, ItemsTo, Returns}
 use Rattle.replay.proofs.Ready.{ready-formed}
 use Rattle.replay.proofs.Searches.{firsts-all, search-hit}
 
@@ -95,27 +97,27 @@ module _ (events : List ℕ) (t : ℕ) (ofs : List ℕ) (m : ℕ) (logs : List �
   batch = batchHeld events t ofs m logs n
 
   -- a node, past the last
-  abbrev none : Node
-  none = ev (eventAt events 0)
+  abbrev beyond : Node
+  beyond = ev (eventAt events 0)
 
   nodes-length : length (nodes batch) ≡ n + t
   nodes-length =
       length-append (map ln (batch .log)) (map ev (batch .trace))
       ∙ (λ i. map-length ln (entryAt logs) n i + map-length ev (eventAt events) t i)
 
-  node-is : (i : ℕ) → i < n + t → getD (nodes batch) i none ≡ nodeAt events logs n i
+  node-is : (i : ℕ) → i < n + t → getD (nodes batch) i beyond ≡ nodeAt events logs n i
   node-is i h = byBool (ltb i n)
       (λ e.
       let l = ltb-true i n e in
       rw e
-      (List·getD-append (map ln (batch .log)) (map ev (batch .trace)) none i (omega (arith, map-length ln (entryAt logs) n))
-      ∙ map-at ln (entryAt logs) n i none l))
+      (List·getD-append (map ln (batch .log)) (map ev (batch .trace)) beyond i (omega (arith, map-length ln (entryAt logs) n))
+      ∙ map-at ln (entryAt logs) n i beyond l))
       (λ e.
       let l = ltb-false i n e in
       let p : i ≡ length (map ln (batch .log)) + (i - n) = omega (arith, map-length ln (entryAt logs) n) in
       rw e
-      (ap (λ j. getD (nodes batch) j none) p ∙ getD-append-add (map ln (batch .log)) (map ev (batch .trace)) (i - n) none
-      ∙ map-at ev (eventAt events) t (i - n) none (omega arith)))
+      (ap (λ j. getD (nodes batch) j beyond) p ∙ getD-append-add (map ln (batch .log)) (map ev (batch .trace)) (i - n) beyond
+      ∙ map-at ev (eventAt events) t (i - n) beyond (omega arith)))
 
   module _ (low : t ≤ 128) (few : m ≤ 64) (known : ℕ → Bool) (ready : Ready known batch) where
     counted : (i : ℕ) → i < n → Counted (countOf (batch .ofs)) (entryAt logs i)
@@ -187,14 +189,14 @@ module _ (events : List ℕ) (t : ℕ) (ofs : List ℕ) (m : ℕ) (logs : List �
         placed = slotted _ (place i) (fine i within .named-in) (is .place)
 
         -- in terms of the list of nodes
-        placed-at : FirstFrom (λ j. eqb (ofAt ofs j .rid) (rid (getD (nodes batch) i none))) 0 m (place i)
+        placed-at : FirstFrom (λ j. eqb (ofAt ofs j .rid) (rid (getD (nodes batch) i beyond))) 0 m (place i)
         placed-at = rw (node-is i within) (is .place)
 
         slot-at : slot requests 64 i ≡ place i
         slot-at = mod-eq-of-lt (omega (arith, placed, few))
 
       held : (front : List ℕ) → front ≡ take (n + t) lanes → Held lane rid (num (countOf (batch .ofs))) (nodes batch)
-          none front requests numbers
+          beyond front requests numbers
       held front e = record {
         lane-at = λ i l.
             let w = within i l in
@@ -211,8 +213,8 @@ module _ (events : List ℕ) (t : ℕ) (ofs : List ℕ) (m : ℕ) (logs : List �
             ∙ sym (slot-at j b);
         one-slot = λ i j a b p.
             let s : place i ≡ place j = sym (slot-at i a) ∙ p ∙ slot-at j b in
-            let c : ofAt ofs (place i) .rid ≡ rid (getD (nodes batch) i none) = yes-eqb (placed-at i a .found (placed i a) .1) in
-            let d : ofAt ofs (place j) .rid ≡ rid (getD (nodes batch) j none) = yes-eqb (placed-at j b .found (placed j b) .1) in
+            let c : ofAt ofs (place i) .rid ≡ rid (getD (nodes batch) i beyond) = yes-eqb (placed-at i a .found (placed i a) .1) in
+            let d : ofAt ofs (place j) .rid ≡ rid (getD (nodes batch) j beyond) = yes-eqb (placed-at j b .found (placed j b) .1) in
             sym c ∙ ap (λ q. ofAt ofs q .rid) s ∙ d;
       }
 
@@ -220,22 +222,61 @@ left-breaks : (xs : List ℕ) (f : ℕ → Node) → breaks (not (eqb (length xs
 left-breaks [] f = refl
 left-breaks (x ∷ xs) f = rw (ne-eqb (suc (length xs)) 0 (λ e. omega arith))
 
+none-breaks : (k : ℕ) → breaks (not (eqb k 0)) 0 ≡ none → k ≡ 0
+none-breaks k e = byEq k 0 (λ p _. p) (λ _ d. let e′ = rw d at e in clash (cc))
+
 module _ (events : List ℕ) (t : ℕ) (ofs : List ℕ) (m : ℕ) (logs : List ℕ) (n : ℕ) (low : t ≤ 128) (few : m ≤ 64) (fewer : n ≤ 1024)
-    (lanes requests numbers : List ℕ) (h : ItemsTo events ofs m logs n (n + t) lanes requests numbers) where
-  pub merge-returns : (front out : List ℕ) → front ≡ take (n + t) lanes → length out ≡ 1152 → (r : Merged) →
-      r ≡ countsOf front requests numbers out →
-      Returns events t ofs m logs n (not (eqb (r .left) 0))
-  merge-returns front out e o r c known ready =
-      let b = batchHeld events t ofs m logs n in
-      let f : ℕ → Node = λ i. getD (nodes b) i (ev (eventAt events 0)) in
-      let l : length front ≡ n + t = ap length e ∙ length-take (n + t) lanes ∙ omega (arith, h .lane-room) in
-      let k : min (length front) (min (length requests) (min (length numbers) (min (length out) 1152))) ≡ n + t =
-      omega (arith, h .request-room, h .number-room) in
-      let s : r .left ≡ length (mergeOf front requests numbers (n + t) .1) =
-      ap (λ x. x .left) c ∙ ap (λ k. length (mergeOf front requests numbers k .1)) k in
-      let q = merge-items lane rid (num (countOf (b .ofs))) (nodes b) (ev (eventAt events 0)) front requests numbers
-      (held events t ofs m logs n low few known ready lanes requests numbers h front e) in
-      ap (λ x. breaks (not (eqb x 0)) 0) s
-      ∙ left-breaks (mergeOf front requests numbers (n + t) .1) f
-      ∙ sym (ap (λ x. leftOver (x .1)) q
-      ∙ ap (λ k. leftOver (map f (mergeOf front requests numbers k .1))) (nodes-length events t ofs m logs n))
+    (lanes requests numbers : List ℕ) (h : ItemsTo events ofs m logs n (n + t) lanes requests numbers)
+    (front out : List ℕ) (e : front ≡ take (n + t) lanes) (o : length out ≡ 1152) (r : Merged) (c : r ≡ countsOf front requests numbers out)
+  where
+    abbrev b : Batch
+    b = batchHeld events t ofs m logs n
+
+    -- the item at a place of the list
+    abbrev item : ℕ → Node
+    item i = getD (nodes b) i (ev (eventAt events 0))
+
+    -- the merge of the arrays
+    abbrev places : List ℕ × List ℕ
+    places = mergeOf front requests numbers (n + t)
+
+    merged-all : min (length front) (min (length requests) (min (length numbers) (min (length out) 1152))) ≡ n + t
+    merged-all =
+        let l : length front ≡ n + t = ap length e ∙ length-take (n + t) lanes ∙ omega (arith, h .lane-room) in
+        omega (arith, h .request-room, h .number-room)
+
+    left-is : r .left ≡ length (places .1)
+    left-is = ap (λ x. x .left) c ∙ ap (λ k. length (mergeOf front requests numbers k .1)) merged-all
+
+    -- is that of the batch
+    merge-is : (known : ℕ → Bool) → Ready known b → mergeAll lane rid (num (countOf (b .ofs))) (nodes b) ≡ both item places
+    merge-is known ready =
+        merge-items lane rid (num (countOf (b .ofs))) (nodes b) (ev (eventAt events 0)) front requests numbers
+        (held events t ofs m logs n low few known ready lanes requests numbers h front e)
+        ∙ ap (λ k. both item (mergeOf front requests numbers k)) (nodes-length events t ofs m logs n)
+
+    pub merge-returns : Returns events t ofs m logs n (not (eqb (r .left) 0))
+    merge-returns known ready =
+        ap (λ x. breaks (not (eqb x 0)) 0) left-is
+        ∙ left-breaks (places .1) item
+        ∙ sym (ap (λ x. leftOver (x .1)) (merge-is known ready))
+
+    -- where it leaves nothing over, its places stand in the front of the array
+    pub merge-orders : (after : List ℕ) → after ≡ orderIn front requests numbers out → Orders events t ofs m logs n after
+    unfolding Orders
+    merge-orders after d known ready z =
+        let xs = places .0 in
+        let w = whole-order front requests numbers (n + t) (sym left-is ∙ none-breaks (r .left) (merge-returns known ready ∙ z)) in
+        let s : after ≡ overFront xs out = d ∙ ap (λ k. overFront (mergeOf front requests numbers k .0) out) merged-all in
+        let below : (k : ℕ) → k < n + t → getD xs k 0 < n + t = λ k l.
+        firsts-all (λ i. i < n + t) (λ k. getD xs k 0) (length xs) k
+        (subst (All (λ i. i < n + t)) (sym (firsts-getD xs 0)) (w .1)) (omega (arith, w .0)) in
+        firsts-same _ (λ k. item (getD xs k 0)) (n + t)
+        (λ k l.
+        ap (λ a. nodeAt events logs n (getD a k 0)) s
+        ∙ ap (nodeAt events logs n) (List·getD-append xs (drop (length xs) out) 0 k (omega (arith, w .0)))
+        ∙ sym (node-is events t ofs m logs n (getD xs k 0) (below k l)))
+        ∙ ap (firsts (λ k. item (getD xs k 0))) (sym (w .0))
+        ∙ sym (map-firsts item (λ k. getD xs k 0) (length xs))
+        ∙ ap (map item) (firsts-getD xs 0)
+        ∙ sym (ap (λ x. x .0) (merge-is known ready))

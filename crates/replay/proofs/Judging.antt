@@ -18,7 +18,7 @@ use Rattle.text.specs.declared.programs.Program.{Program}
 use Rattle.text.specs.declared.report.Of.{Of}
 use Rattle.text.specs.declared.trace.Event.the-variants.{Request, Response}
 use Rattle.text.specs.declared.trace.Event.{Event}
-use Rattle.text.proofs.RowLaws.{firsts-same, firsts-front}
+use Rattle.text.proofs.RowLaws.{firsts-same, firsts-front, firsts-split}
 use Rattle.text.proofs.ScanLaws.{first-before}
 use Rattle.ordering.proofs.Basics.{clash, byBool, byEq, eqb-self}
 use Rattle.model.specs.Audit.{requestChecks, replayChecks}
@@ -196,15 +196,6 @@ module _ (table : List Program) (events : List ℕ) (t : ℕ) (ofs : List ℕ) (
     pub row-is : row ≡ rowOf (outcomeIn (getD (set progs k (start .prog)) k 0) paths (k * 256) end) (said (reply .status) (reply .value))
         (ended silent (pathAt (set progs k (start .prog)) (set lengths k d) paths f))
 
-  split : (k : ℕ) → k < m → firsts (λ i. ofAt ofs (k + i)) (m - k) ≡ ofAt ofs k ∷ firsts (λ i. ofAt ofs (k + 1 + i)) (m - (k + 1))
-  split k h =
-      let z : m - k ≡ suc (m - (k + 1)) = omega arith in
-      let o : k + 0 ≡ k = omega arith in
-      ap (firsts (λ i. ofAt ofs (k + i))) z ∙ firsts-front (λ i. ofAt ofs (k + i)) (m - (k + 1))
-      ∙ (λ i. ofAt ofs (o i)
-      ∷ firsts-same (λ i. ofAt ofs (k + suc i)) (λ i. ofAt ofs (k + 1 + i)) (m - (k + 1))
-      (λ j _. let e : k + suc j ≡ k + 1 + j = omega arith in ap (ofAt ofs) e) i)
-
   pub judging-start : (progs lengths paths : List ℕ) → m ≤ 64 → length progs ≡ 64 → length lengths ≡ 64 → length paths ≡ 16384 →
       Judging progs lengths paths 0
   judging-start progs lengths paths few a b c = record {
@@ -333,7 +324,7 @@ module _ (table : List Program) (events : List ℕ) (t : ℕ) (ofs : List ℕ) (
       checks-split : checksFrom k ≡ checksOf (outcomes k) response firstOutcome (suc k) (checksFrom (k + 1))
       checks-split =
           let e : suc k ≡ k + 1 = omega arith in
-          ap (replayChecks (machineOf table) atStart all (suc k)) (split k low)
+          ap (replayChecks (machineOf table) atStart all (suc k)) (firsts-split (ofAt ofs) k m low)
           ∙ ap (λ i. requestChecks (machineOf table) atStart all (suc k) (ofAt ofs k)
           ++ replayChecks (machineOf table) atStart all (suc i) (firsts (λ i. ofAt ofs (k + 1 + i)) (m - (k + 1)))) e
 

@@ -2,10 +2,10 @@
 use mathlib.Core.Bool.{Bool, false, cond}
 use mathlib.Core.List.{List, _∷_}
 use mathlib.Core.Path.{_≡_}
-use Prim.Native.Nat.{ℕ, zero, suc, _+_, _-_, _*_, _%_, _≤_, _<_}
-use lib.Dec.{eqb, ltb}
+use Prim.Native.Nat.{ℕ, zero, suc, _+_, _*_, _%_, _≤_, _<_}
+use lib.Dec.{eqb}
 use lib.ListN.{getD, length, replicate}
-use Rattle.text.specs.Held.{eventAt, ofAt, entryAt}
+use Rattle.text.specs.Held.{ofAt, entryAt}
 use Rattle.text.specs.Rows.{firsts}
 use Rattle.text.specs.Scans.{FirstFrom, Heads}
 use Rattle.text.specs.declared.programs.Instr.{Instr}
@@ -22,7 +22,7 @@ use Rattle.model.specs.Replay.{Reply, said, Outcome, differs, ended, Answer, wr
 use Rattle.machine.specs.Instance.{Process, codeAt, machineOf}
 use Rattle.machine.specs.Logs.{after}
 use Rattle.machine.specs.Objects.{Content, apply, atStart}
-use Rattle.replay.specs.Judges.{batchHeld, Ready}
+use Rattle.replay.specs.Judges.{batchHeld, nodeAt, Ready}
 use Rattle.replay.specs.declared.Fault.{Fault}
 use Rattle.replay.specs.declared.claims.Answered.{Answered}
 use Rattle.replay.specs.declared.replays.Arrival.{Arrival}
@@ -146,10 +146,6 @@ JudgesRequests table events t ofs m logs n r = (known : ℕ → Bool) → Ready 
     ≡ firstFault (replayChecks (machineOf table) atStart (batchHeld events t ofs m logs n) 1 (batchHeld events t ofs m logs n .ofs))
 
 -- ── items ──
--- item i of a batch with n log lines
-abbrev pub nodeAt : (events logs : List ℕ) (n i : ℕ) → Node
-nodeAt events logs n i = cond (ltb i n) (ln (entryAt logs i)) (ev (eventAt events (i - n)))
-
 -- an item's lane and number as the arrays can hold them; c is its request's count
 abbrev pub laneIn : Node → ℕ
 laneIn (ev e) = 0

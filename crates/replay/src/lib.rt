@@ -9,12 +9,13 @@ mod requests;
 use claims::prepare;
 use counts::row_8;
 use machine::Ruling;
-use orders::returns;
+use orders::put_order;
 use requests::judge_requests;
 use text::Programs;
 ghost use mathlib.Core.Path.{_≡_};
 ghost use Prim.Native.Nat.{min};
-ghost use Rattle.replay.specs.Judges.{Judges};
+ghost use lib.ListN.{length};
+ghost use Rattle.replay.specs.Judges.{Judges, OrdersIn};
 
 // The first fault of rows 8 to 12: row 0 and line 0 where there is none.
 pub struct Fault {
@@ -56,8 +57,29 @@ pub fn judge(
         }
         Ruling::Kept => {}
     }
-    if returns(events, t, ofs, m, logs, n) {
+    let mut order = [0u16; 1152];
+    if put_order(events, t, ofs, m, logs, n, &mut order) {
         return Fault { row: 9, line: 0 };
     }
     judge_requests(ps, events, t, ofs, m, logs, n, &heads, &afters, &answers)
+}
+
+// The order of the items of such a batch, as places, to the front of `order`: what `judge` found where it found no row 9. It is made again,
+// so that an audit which nobody asks for an order writes none.
+pub fn order_items(
+    events: &[u64; 640],
+    t: usize,
+    ofs: &[u64; 192],
+    m: usize,
+    logs: &[u64; 6144],
+    n: usize,
+    order: &mut [u16; 1152],
+)
+    requires { ⌜ length (now order) ≡ 1152 ⌝ }
+    ensures { λ _. ⌜ OrdersIn (now (events .entry)) t (now (ofs .entry)) m (now (logs .entry)) n (now (order .exit)) ⌝ }
+{
+    let t = least(t, 128);
+    let m = least(m, 64);
+    let n = least(n, 1024);
+    put_order(events, t, ofs, m, logs, n, order);
 }

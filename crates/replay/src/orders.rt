@@ -1,4 +1,4 @@
-// Row 9: the items of a batch for the merge, log lines first and then trace events, and what the merge leaves.
+// Row 9: the items of a batch for the merge, log lines first and then trace events, their order, and whether the merge leaves something.
 use text::Entry;
 use text::Event;
 use text::entry_at;
@@ -11,7 +11,8 @@ ghost use Prim.Native.Nat.{_≤_, _<_, _+_};
 ghost use lib.ListN.{length};
 ghost use Rattle.text.specs.Slots.{Slots};
 ghost use Rattle.model.specs.Batch.{ev, ln};
-ghost use Rattle.replay.specs.Promises.{ItemIs, nodeAt, ItemsTo, Returns};
+ghost use Rattle.replay.specs.Judges.{nodeAt, Orders};
+ghost use Rattle.replay.specs.Promises.{ItemIs, ItemsTo, Returns};
 
 // An item's lane (0 the trace, 1 + object), the slot of its request, and its number there.
 pub struct Item {
@@ -107,17 +108,19 @@ fn put_items(
     }
 }
 
-// Whether the order returns to itself: the merge leaves something over.
-pub(crate) fn returns(
+// The order of the items, as places, to the front of `order`, and whether it returns to itself: the merge leaves something over.
+pub(crate) fn put_order(
     events: &[u64; 640],
     t: usize,
     ofs: &[u64; 192],
     m: usize,
     logs: &[u64; 6144],
     n: usize,
+    order: &mut [u16; 1152],
 ) -> bool
-    requires { ⌜ (t ≤ 128) × (m ≤ 64) × (n ≤ 1024) ⌝ }
-    ensures { λ r. ⌜ Returns (now (events .entry)) t (now (ofs .entry)) m (now (logs .entry)) n r ⌝ }
+    requires { ⌜ (t ≤ 128) × (m ≤ 64) × (n ≤ 1024) × (length (now order) ≡ 1152) ⌝ }
+    ensures returns { λ r. ⌜ Returns (now (events .entry)) t (now (ofs .entry)) m (now (logs .entry)) n r ⌝ }
+    ensures order { λ _. ⌜ Orders (now (events .entry)) t (now (ofs .entry)) m (now (logs .entry)) n (now (order .exit)) ⌝ }
 {
     let mut lane = [0u8; 1152];
     let mut request = [0u8; 1152];
@@ -133,7 +136,6 @@ pub(crate) fn returns(
         &mut request,
         &mut number,
     );
-    let mut out = [0u16; 1152];
-    let merged = ordering::merge(&lane[..n + t], &request, &number, &mut out);
+    let merged = ordering::merge(&lane[..n + t], &request, &number, order);
     merged.left != 0
 }

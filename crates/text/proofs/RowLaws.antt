@@ -1,5 +1,5 @@
 -- Laws of records in an array of numbers.
-use Prim.Native.Nat.{ℕ, zero, suc, _+_, _*_, _%_, _<_, _≤_}
+use Prim.Native.Nat.{ℕ, zero, suc, _+_, _-_, _*_, _%_, _<_, _≤_}
 use mathlib.Core.Bool.{Bool, true, false}
 use mathlib.Core.List.{List, [], _∷_, _++_, append-assoc}
 use mathlib.Core.Path.{_≡_, refl, sym, _∙_, ap, subst}
@@ -95,6 +95,23 @@ module _ {A : Type 0} where
   firsts-at f zero i d h = absurd (omega arith)
   firsts-at f (suc n) zero d h = rw (firsts-front f n)
   firsts-at f (suc n) (suc i) d h = rw (firsts-front f n) (firsts-at (λ i. f (suc i)) n i d (omega arith))
+
+  -- those from k on
+  pub firsts-split : (f : ℕ → A) (k m : ℕ) → k < m →
+      firsts (λ i. f (k + i)) (m - k) ≡ f k ∷ firsts (λ i. f (k + 1 + i)) (m - (k + 1))
+  firsts-split f k m h =
+      let z : m - k ≡ suc (m - (k + 1)) = omega arith in
+      let o : k + 0 ≡ k = omega arith in
+      ap (firsts (λ i. f (k + i))) z ∙ firsts-front (λ i. f (k + i)) (m - (k + 1))
+      ∙ (λ i. f (o i)
+      ∷ firsts-same (λ i. f (k + suc i)) (λ i. f (k + 1 + i)) (m - (k + 1))
+      (λ j _. let e : k + suc j ≡ k + 1 + j = omega arith in ap f e) i)
+
+  -- a list by its places
+  pub firsts-getD : (xs : List A) (d : A) → firsts (λ k. getD xs k d) (length xs) ≡ xs
+  unfolding firsts
+  firsts-getD [] d = refl
+  firsts-getD (x ∷ xs) d = firsts-front (λ k. getD (x ∷ xs) k d) (length xs) ∙ ap (λ t. x ∷ t) (firsts-getD xs d)
 
   -- one record more
   pub firsts-more : (f g : ℕ → A) (n : ℕ) (x : A) → ((i : ℕ) → i < n → f i ≡ g i) → f n ≡ x →

@@ -5,6 +5,7 @@
 // parted by commas, and a line feed. A batch has three numbers, the lengths of programs, trace and report; a schedule has four, the lengths
 // of programs and schedule and of the buffers that are lent for trace and report. The texts follow with nothing between them.
 mod batches;
+mod checksums;
 mod containers;
 mod schedules;
 

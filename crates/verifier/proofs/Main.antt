@@ -1,6 +1,6 @@
 -- What the audit comes to on three texts: theorems about `auditOf`, which is what `audit` gives for every input. Each is proved by one
 -- citation.
-use Prim.Native.Nat.{ℕ}
+use Prim.Native.Nat.{ℕ, _≤_}
 use mathlib.Core.List.{List, [], _∷_, _++_}
 use mathlib.Core.Logic.{_↔_, _≢_}
 use mathlib.Core.Path.{_≡_, refl}
@@ -15,9 +15,13 @@ use Rattle.writing.specs.Verdict.{verdictText}
 use Rattle.model.specs.Checks.{firstFault, contents}
 use Rattle.verifier.specs.Accepts.{Accepts}
 use Rattle.verifier.specs.Faults.{checksOf, audited, auditOf}
-use Rattle.verifier.specs.Printed.{auditedText}
+use Rattle.verifier.specs.Order.{orderOf, orderText}
+use Rattle.verifier.specs.OrderRead.{OrderRead}
+use Rattle.verifier.specs.Printed.{auditedText, printedText, mostOrder}
 use Rattle.verifier.specs.Returns.{OrderReturns}
 use Rattle.verifier.proofs.Acceptance.{audit-accepts, audit-returns, audit-refuses}
+use Rattle.verifier.proofs.OrderRanges.{order-most}
+use Rattle.verifier.proofs.OrderReads.{order-read, order-none}
 
 module _ (programs trace report : List ℕ) where
   -- Demand 2: the first of the rows that holds is the verdict, with its line, and 0 where none does; then the counts are those of the texts.
@@ -43,11 +47,26 @@ module _ (programs trace report : List ℕ) where
   pub verdict-9 : (auditOf programs trace report .verdict ≡ 9) ↔ OrderReturns programs trace report
   verdict-9 = audit-returns programs trace report
 
-  -- What is printed: the four verdict lines, refused or not.
+  -- What is printed: the four verdict lines, refused or not, and then the lines of the order.
   pub printed :
       let a = auditOf programs trace report in
-      auditedText a
-      ≡ (lineText (bytes "verdict=") (a .verdict ∷ []) ++ lineText (bytes "line=") (a .line ∷ []))
-      ++ (lineText (bytes "requests=") (a .requests ∷ []) ++ lineText (bytes "operations=") (a .operations ∷ []))
-  unfolding auditedText verdictText
+      printedText programs trace report
+      ≡ ((lineText (bytes "verdict=") (a .verdict ∷ []) ++ lineText (bytes "line=") (a .line ∷ []))
+      ++ (lineText (bytes "requests=") (a .requests ∷ []) ++ lineText (bytes "operations=") (a .operations ∷ [])))
+      ++ orderText 1 (orderOf programs trace report)
+  unfolding printedText auditedText verdictText
   printed = refl
+
+  -- P1: the order that is printed of an accepted batch is allowed by demand 3, has every trace event and every operation once, and is by the
+  -- rule: of the items whose forerunners are all printed, an operation goes before an event, and of several operations the one with the
+  -- smallest report line number is next. No other order is by the rule.
+  pub order : auditOf programs trace report .verdict ≡ 0 → OrderRead programs trace report (orderOf programs trace report)
+  order = order-read programs trace report
+
+  -- A refusal has no order.
+  pub no-order : auditOf programs trace report .verdict ≢ 0 → orderOf programs trace report ≡ []
+  no-order = order-none programs trace report
+
+  -- The lines of an order fit into `mostOrder` bytes.
+  pub room : length (orderText 1 (orderOf programs trace report)) ≤ mostOrder
+  room = order-most programs trace report

@@ -1,20 +1,24 @@
--- The printed lines as three pieces, and how long they are.
-use Prim.Native.Nat.{ℕ, _+_, _<_, _≤_}
+-- The printed lines: the verdict lines as three pieces, and the order behind them; and how long they are.
+use Prim.Native.Nat.{ℕ, _+_, _/_, _<_, _≤_, min}
 use mathlib.Core.List.{List, [], _∷_, _++_, append-nil}
-use mathlib.Core.Path.{_≡_, sym, ap, subst}
+use mathlib.Core.Path.{_≡_, sym, ap, subst, _∙_}
 use native.Mathlib.Omega.{arith}
 use lib.ListN.{length, length-append}
-use mir.Syntax.{w64}
-use mir.Val.{Fits}
 use Rattle.lines.specs.Bytes.{bytes}
 use Rattle.lines.specs.LineText.{numbersText, lineText}
-use Rattle.lines.specs.Put.{PutIs}
+use Rattle.lines.specs.Put.{PutIs, writtenOf}
 use Rattle.lines.specs.declared.writer.Put.{Put}
 use Rattle.lines.proofs.LineTexts.{line-length}
+use Rattle.lines.proofs.Puts.{put-done}
+use Rattle.writing.specs.Order.{itemsText}
 use Rattle.writing.specs.Verdict.{verdictText}
-use Rattle.writing.proofs.VerdictTexts.{number-most, verdict-most}
-use Rattle.verifier.specs.Printed.{auditedText, mostPrinted}
+use Rattle.model.specs.PlainRun.{Item}
+use Rattle.verifier.specs.Faults.{auditOf}
+use Rattle.verifier.specs.Order.{orderOf, orderNumbers, orderText}
+use Rattle.verifier.specs.Printed.{auditedText, printedText, mostAudited, mostPrinted}
 use Rattle.verifier.specs.declared.Audited.{Audited}
+use Rattle.verifier.proofs.OrderRanges.{order-few, order-numbered, order-most}
+use Rattle.verifier.proofs.OrderTexts.{numbers-length, order-lines}
 
 module _ (a : Audited) where
   abbrev pub requestsLine : List ℕ
@@ -37,12 +41,43 @@ module _ (a : Audited) where
   pub printed-some : 0 < length (auditedText a)
   printed-some = omega (arith, printed-length)
 
--- a result whose numbers have 64 bits
-pub printed-most : (a b : Audited) → a ≡ b → Fits w64 (a .verdict) → Fits w64 (a .line) → Fits w64 (a .requests) →
-    Fits w64 (a .operations) → length (auditedText b) ≤ mostPrinted
-printed-most a b e v l r o =
-    subst (λ x. length (auditedText x) ≤ mostPrinted) e
-    (omega (arith, printed-length a, verdict-most (a .verdict) (a .line) v l, number-most r, number-most o))
+-- ── the verdict lines, and the order behind them ──
+module _ (programs trace report : List ℕ) where
+  abbrev order : List Item
+  order = orderOf programs trace report
 
-pub put-as : (a b : Audited) (o p : List ℕ) (r : Put) → a ≡ b → PutIs (auditedText a) o p r → PutIs (auditedText b) o p r
-put-as a b o p r e h = subst (λ x. PutIs (auditedText x) o p r) e h
+  -- nothing is never printed
+  pub text-some : 0 < length (printedText programs trace report)
+  unfolding printedText
+  text-some =
+      let a = auditOf programs trace report in
+      omega (arith, printed-some a, length-append (auditedText a) (orderText 1 order))
+
+  module _ (a : Audited) (e : a ≡ auditOf programs trace report) where
+    pub text-most : length (auditedText a) ≤ mostAudited → length (printedText programs trace report) ≤ mostPrinted
+    unfolding printedText
+    text-most h =
+        let b = auditOf programs trace report in
+        omega (
+          arith,
+          length-append (auditedText b) (orderText 1 order),
+          subst (λ x. length (auditedText x) ≤ mostAudited) e h,
+          order-most programs trace report,
+        )
+
+    -- n of its numbers were written to an array
+    module _ (before items : List ℕ) (q : Put) (n : ℕ) (room : length before ≡ 2304) (d : PutIs (orderNumbers 1 order) before items q)
+        (w : n ≡ writtenOf q) where
+      items-printed : itemsText items (min (n / 2) 1152) ≡ orderText 1 order
+      items-printed =
+          let few = order-few programs trace report in
+          let long = numbers-length 1 order in
+          let done = put-done (orderNumbers 1 order) before items q (omega (arith, room, few, long)) d in
+          let k : min (n / 2) 1152 ≡ length order = omega (arith, w, done .0, long, few) in
+          ap (itemsText items) k ∙ ap (λ t. itemsText t (length order)) (done .1)
+          ∙ order-lines order before (order-numbered programs trace report)
+
+      pub text-put : (o p : List ℕ) (r : Put) → PutIs (auditedText a ++ itemsText items (min (n / 2) 1152)) o p r →
+          PutIs (printedText programs trace report) o p r
+      unfolding printedText
+      text-put o p r h = subst (λ t. PutIs t o p r) (λ i. auditedText (e i) ++ items-printed i) h

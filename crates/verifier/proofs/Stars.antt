@@ -13,13 +13,15 @@ use Rattle.text.specs.Programs.{addProgram, addDo, readPrograms}
 use Rattle.text.specs.Report.{addOf, addLog, readReport}
 use Rattle.text.specs.Text.{within, count, addLine, readLines, readText}
 use Rattle.text.specs.Trace.{addRequest, addResponse, readTrace}
+use Rattle.writing.specs.Order.{eventItem, operationItem}
 use Rattle.writing.specs.Verdict.{verdictText}
 use Rattle.ordering.specs.Maps.{upd}
 use Rattle.ordering.specs.Merge.{bump}
 use Rattle.machine.specs.Instructions.{effectAs}
 use Rattle.machine.specs.Processes.{go}
 use Rattle.verifier.specs.Faults.{auditOf}
-use Rattle.verifier.specs.Printed.{auditedText}
+use Rattle.verifier.specs.Order.{orderOf, orderText}
+use Rattle.verifier.specs.Printed.{auditedText, printedText}
 use Rattle.verifier.specs.declared.Audited.{Audited}
 
 -- three texts as their lines, and what the audit finds
@@ -91,15 +93,31 @@ unfolding auditOf readPrograms readTrace readReport readText readLines addLine l
     parts onto within count addProgram addDo addRequest addResponse addOf addLog go effectAs upd bump
 stars = refl
 
--- what the program prints of C, of empty texts, and of a refusal
-printed : map (λ c. auditedText (audits c)) (caseC ∷ allEmpty ∷ valueChanged ∷ [])
-    ≡ text ("verdict=0" ∷ "line=0" ∷ "requests=2" ∷ "operations=4" ∷ [])
+-- ── what is printed ──
+-- Request 1 gets object 1, where request 2 put before it; so behind operation 1 of request 2 both requests have an operation that waits for
+-- nothing. That of request 2 stands above in the report and goes first, though its request came later. Then its response may be printed too,
+-- but the operation that is left goes before an event.
+abbrev laterFirst : Case
+laterFirst =
+    case ("program=0" ∷ "do=6,0,1,0" ∷ "do=0,0,0,0" ∷ "program=1" ∷ "do=1,2,1,0" ∷ "do=7,1,2,0" ∷ "do=6,0,0,0" ∷ "do=0,0,0,0" ∷ [])
+    ("request=1,0,0,0" ∷ "request=2,1,0,0" ∷ "response=2,0,0" ∷ "response=1,0,1" ∷ [])
+    ("of=1,0,1" ∷ "of=2,1,2" ∷ "log=1,2,1,7,0,1" ∷ "log=0,2,2,6,0,0" ∷ "log=1,1,1,6,0,0" ∷ []) (accepted 2 3)
+
+-- of C, of empty texts, of a refusal, and of the batch above
+printed : map (λ c. printedText (text (c .programLines)) (text (c .traceLines)) (text (c .reportLines)))
+    (caseC ∷ allEmpty ∷ valueChanged ∷ laterFirst ∷ [])
+    ≡ text (
+    "verdict=0" ∷ "line=0" ∷ "requests=2" ∷ "operations=4"
+    ∷ "event=1" ∷ "op=1,1" ∷ "event=2" ∷ "op=2,1" ∷ "op=2,2" ∷ "op=1,2" ∷ "event=3" ∷ "event=4" ∷ [])
     ∷ text ("verdict=0" ∷ "line=0" ∷ "requests=0" ∷ "operations=0" ∷ [])
     ∷ text ("verdict=10" ∷ "line=1" ∷ "requests=0" ∷ "operations=0" ∷ [])
+    ∷ text (
+    "verdict=0" ∷ "line=0" ∷ "requests=2" ∷ "operations=3"
+    ∷ "event=1" ∷ "event=2" ∷ "op=2,1" ∷ "op=2,2" ∷ "op=1,1" ∷ "event=3" ∷ "event=4" ∷ [])
     ∷ []
 unfolding auditOf readPrograms readTrace readReport readText readLines addLine lineOf fieldsOf fieldOf prefix numberOf digitsOf pushOf
     parts onto within count addProgram addDo addRequest addResponse addOf addLog go effectAs upd bump
-    auditedText verdictText lineText numbersText separatorOf decimal digitsIn
+    printedText auditedText verdictText orderOf orderText eventItem operationItem lineText numbersText separatorOf decimal digitsIn
 printed = refl
 
 -- ── the small examples of rows 1 to 8 ──

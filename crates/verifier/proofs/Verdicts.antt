@@ -1,13 +1,13 @@
 -- The audit from one row to the next: a row that holds gives the verdict, and a row that does not leaves it to the rows behind.
-use Prim.Native.Nat.{ℕ, suc, _≤_, _<_, min}
-use mathlib.Core.Bool.{true, false}
-use mathlib.Core.List.{List, [], _∷_}
-use mathlib.Core.Logic.{_↔_}
+use Prim.Native.Nat.{ℕ, suc, _+_, _≤_, _<_, min}
+use mathlib.Core.Bool.{Bool, true, false, cond}
+use mathlib.Core.List.{List, [], _∷_, map}
+use mathlib.Core.Logic.{_↔_, _≢_}
 use mathlib.Core.Option.{Option, none, some}
 use mathlib.Core.Path.{_≡_, refl, sym, ap, _∙_, subst}
 use native.Mathlib.Omega.{arith}
 use borrow.Author.Tests.{ltb-true}
-use lib.Dec.{ltb}
+use lib.Dec.{eqb, ltb}
 use lib.ListN.{length, getD}
 use Rattle.text.specs.Held.{Bounded, eventAt, ofAt, entryAt, readIn, reportIn, programAt, programsIn, TraceIs, ReportIs, ProgramsIs, ofsIn, logsIn, tableIn, reportOf}
 use Rattle.text.specs.Held as held
@@ -27,12 +27,15 @@ use Rattle.text.specs.declared.trace.Event.the-variants.{Request, Response}
 use Rattle.text.specs.declared.trace.Event.{Event}
 use Rattle.text.proofs.ProgramsReading.{table-read}
 use Rattle.text.proofs.RowLaws.{firsts-length}
-use Rattle.model.specs.Audit.{from8, from6, from4}
+use Rattle.model.specs.Audit.{row9, from8, from6, from4}
 use Rattle.model.specs.Requests.{row4, row4Open, row6}
-use Rattle.model.specs.Claims.{row7}
+use Rattle.model.specs.Claims.{row7, row8}
 use Rattle.model.specs.Batch.{Batch, batchOf}
+use Rattle.model.specs.Nodes.{mergeOf}
+use Rattle.model.specs.ByRule.{itemOf}
 use Rattle.model.specs.Checks.{Verdict, verdict, faultOr, firstFault, badLine, contents}
-use Rattle.model.proofs.Scans.{holds, passes}
+use Rattle.ordering.proofs.Basics.{byBool, eqb-yes}
+use Rattle.model.proofs.Scans.{holds, passes, passed}
 use Rattle.model.proofs.Trace.{Matching, row4-order, row6-matching}
 use Rattle.machine.specs.Instance.{gone, machineOf}
 use Rattle.machine.specs.Objects.{atStart}
@@ -43,16 +46,29 @@ use Rattle.machine.specs.declared.rules.Ruling.{Ruling}
 use Rattle.machine.proofs.Rulings.{broken, kept}
 use Rattle.machine.proofs.SameReplays.{replays-same}
 use Rattle.machine.proofs.Tables.{same-code, tables-agree}
-use Rattle.replay.specs.Judges.{batchIn, Ready, Judges}
+use Rattle.replay.specs.Judges.{batchHeld, batchIn, Ready, Judges, Orders, OrdersIn}
 use Rattle.replay.specs.declared.Fault.{Fault}
 use Rattle.verifier.specs.Accepts.{Accepts}
 use Rattle.verifier.specs.Faults.{checksOf, audited, auditedOf, auditOf}
-use Rattle.verifier.specs.Steps.{refusal, eventsIn, auditedReport, auditedTrace, ReportChecked, BatchHeld, BatchChecked}
+use Rattle.verifier.specs.Steps.{
+  refusal,
+  eventsIn,
+  auditedReport,
+  auditedTrace,
+  ReportChecked,
+  BatchHeld,
+  BatchChecked,
+  itemsIn,
+  noOrder,
+  JudgedIn,
+}
 use Rattle.verifier.specs.declared.Audited.{Audited}
 use Rattle.verifier.specs.declared.audits.Checked.{Checked}
+use Rattle.verifier.specs.declared.audits.Judged.{Judged}
 use Rattle.verifier.specs.declared.audits.Checked.the-variants.{Refused}
 use Rattle.verifier.specs.declared.audits.Checked.the-variants as checked
 use Rattle.verifier.proofs.Acceptance.{audit-accepts}
+use Rattle.verifier.proofs.OrderReads.{order-merged}
 use Rattle.verifier.proofs.ReportRanges.{report-in-range}
 
 -- ── rows 6 and 7 ──
@@ -154,7 +170,7 @@ module _ (k : ℕ) (events : List Event) (s : List ℕ) where
 
       pub past-report : (m n : ℕ) → r ≡ Counts m n → (c : Checked) → ReportChecked events ofs m logs n c → BatchChecked k events s ofs logs c
       past-report m n e (Refused row line) g =
-          λ table l. g table ∙ past-5 table events (readReport s) (known-in table k events none l d) f _ (report-read s r ofs logs h m n e)
+          (g .0, λ table l. g .1 table ∙ past-5 table events (readReport s) (known-in table k events none l d) f _ (report-read s r ofs logs h m n e))
       past-report m n e (checked.Counts p q) g =
           let b = report-few s r ofs logs h m n e in
           rw (g .0, g .1)
@@ -188,12 +204,17 @@ module _ (ps : Programs) (events : List ℕ) (t : ℕ) (traced : TraceHeld ps t)
   lines4 : row4 (known table) (eventsIn events t) ≡ none
   lines4 = known-in table (ps .n) (eventsIn events t) none counted-in (h .lines4)
 
+  all-events : min t 128 ≡ t
+  all-events = omega (arith, traced .events)
+
+  all-ofs : min m 64 ≡ m
+  all-ofs = omega (arith, h .fewOfs)
+
+  all-entries : min n 1024 ≡ n
+  all-entries = omega (arith, h .fewEntries)
+
   whole : batchIn events t ofs m logs n ≡ batch
-  whole =
-      let p : min t 128 ≡ t = omega (arith, traced .events) in
-      let q : min m 64 ≡ m = omega (arith, h .fewOfs) in
-      let r : min n 1024 ≡ n = omega (arith, h .fewEntries) in
-      λ i. record { trace = firsts (eventAt events) (p i); ofs = firsts (ofAt ofs) (q i); log = firsts (entryAt logs) (r i) }
+  whole = λ i. batchHeld events (all-events i) ofs (all-ofs i) logs (all-entries i)
 
   below : (prog : ℕ) → known table prog ≡ true → prog < ps .n
   below prog e = omega (arith, ltb-true prog (length table) e, counted-in)
@@ -223,6 +244,22 @@ module _ (ps : Programs) (events : List ℕ) (t : ℕ) (traced : TraceHeld ps t)
       ∙ past-7 table (eventsIn events t) (reportOf ofs m logs n) (h .unbroken .row6-none) (h .unbroken .row7-none) in
       g ∙ (λ i. audited (u i) (c i) (o i))
       ∙ past-5 table (eventsIn events t) (readReport s) lines4 (h .answered4) (reportOf ofs m logs n) (h .read)
+
+  -- a batch without a fault has an order, and places that order its items give it
+  no-row-9 : (f : Fault) → Judges ps events t ofs m logs n f → f .row ≡ 0 → row9 batch ≡ none
+  no-row-9 f j z =
+      let v = subst (λ b. Ready (known table) b → verdict (f .row) (f .line) ≡ firstFault (from8 (machineOf (ps .table)) atStart b)) whole
+      (j (known table)) ready in
+      let past = passed 8 (row8 batch) _ 0 refl (sym (ap (λ v. v .number) v) ∙ z) in
+      passed 9 (row9 batch) _ 0 refl (past .1) .0
+
+  ordered : row9 batch ≡ none → (order : List ℕ) → OrdersIn events t ofs m logs n order →
+      itemsIn events logs n order (n + t) ≡ map itemOf (mergeOf batch .0)
+  unfolding Orders
+  ordered z order o =
+      let here = subst (λ x. Orders events x ofs (min m 64) logs (min n 1024) order) all-events o in
+      let there = subst (λ x. Orders events t ofs x logs (min n 1024) order) all-ofs here in
+      ap (map itemOf) (subst (λ x. Orders events t ofs m logs x order) all-entries there (known table) ready z)
 
 -- ── rows 1 to 3 ──
 module _ (table : List Program) (trace : Read (List Event)) (report : Read Report) where
@@ -282,25 +319,61 @@ module _ (s trace report : List ℕ) (ps : Programs) (h : ProgramsIs s ps) where
             (sym (g .read) ∙ ap (readIn (eventAt events)) d)
             ∙ whole-text
 
-        past-3 : (t : ℕ) → l ≡ Readable t → auditedTrace (tableIn ps) (eventsIn events t) (readReport report) ≡ auditOf s trace report
+        events-read : (t : ℕ) → l ≡ Readable t → readTrace trace ≡ readable (eventsIn events t)
         unfolding readIn
+        events-read t d = sym (g .read) ∙ ap (readIn (eventAt events)) d
+
+        past-3 : (t : ℕ) → l ≡ Readable t → auditedTrace (tableIn ps) (eventsIn events t) (readReport report) ≡ auditOf s trace report
         past-3 t d =
             trace-read (tableIn ps) (readTrace trace) (readReport report) (kept r (row2 (tableIn ps)) ruled k) (eventsIn events t)
-            (sym (g .read) ∙ ap (readIn (eventAt events)) d)
+            (events-read t d)
             ∙ whole-text
 
         module _ (t : ℕ) (d : l ≡ Readable t) (ofs logs : List ℕ) (c : Checked)
             (q : BatchChecked (ps .n) (eventsIn events t) report ofs logs c) where
-          pub at-4-to-7 : (row line : ℕ) → c ≡ Refused row line → refusal row line ≡ auditOf s trace report
+          pub at-4-to-7 : (row line : ℕ) → c ≡ Refused row line → (row ≢ 0) × (refusal row line ≡ auditOf s trace report)
           at-4-to-7 row line z =
               let told = subst (BatchChecked (ps .n) (eventsIn events t) report ofs logs) z q in
-              told (tableIn ps) (firsts-length (programAt (ps .table)) (ps .n)) ∙ past-3 t d
+              (told .0, told .1 (tableIn ps) (firsts-length (programAt (ps .table)) (ps .n)) ∙ past-3 t d)
 
-          pub past-4-to-7 : (m n : ℕ) → c ≡ checked.Counts m n → (f : Fault) (x : Audited) → x ≡ audited (verdict (f .row) (f .line)) m n →
-              Judges ps events t ofs m logs n f → x ≡ auditOf s trace report
-          past-4-to-7 m n z f x w j =
-              let told = subst (BatchChecked (ps .n) (eventsIn events t) report ofs logs) z q in
-              judged ps events t (trace-held l events g t d) report ofs m logs n told f x w j ∙ past-3 t d
+          module _ (m n : ℕ) (z : c ≡ checked.Counts m n) where
+            counts : BatchHeld (ps .n) (eventsIn events t) report ofs m logs n
+            counts = subst (BatchChecked (ps .n) (eventsIn events t) report ofs logs) z q
+
+            traced : TraceHeld ps t
+            traced = trace-held l events g t d
+
+            -- an acceptance counts all, and a refusal nothing
+            counted-at-most : (v : Verdict) → audited v m n .operations ≤ n
+            counted-at-most v = byBool (eqb (v .number) 0)
+                (λ e. omega (arith, ap (λ (t : Bool). cond t n 0) e))
+                (λ e. omega (arith, ap (λ (t : Bool). cond t n 0) e))
+
+            pub past-4-to-7 : (f : Fault) (x : Audited) → x ≡ audited (verdict (f .row) (f .line)) m n →
+                Judges ps events t ofs m logs n f → JudgedIn s trace report events ofs logs (record { audited = x; events = t })
+            past-4-to-7 f x w j =
+                let e = judged ps events t traced report ofs m logs n counts f x w j ∙ past-3 t d in
+                record {
+                  meaning = e;
+                  fewEntries = omega (arith, ap (λ x. x .operations) w, counted-at-most (verdict (f .row) (f .line)), counts .fewEntries);
+                  fewEvents = traced .events;
+                  ordered = λ v order o.
+                      let z : f .row ≡ 0 = sym (ap (λ x. x .verdict) w) ∙ v in
+                      let k : x .operations ≡ n = ap (λ x. x .operations) w ∙ ap (λ (t : Bool). cond t n 0) (eqb-yes z) in
+                      let l : x .requests ≡ m = ap (λ x. x .requests) w ∙ ap (λ (t : Bool). cond t m 0) (eqb-yes z) in
+                      ap (λ k. itemsIn events logs k order (k + t)) k
+                      ∙ ordered ps events t traced report ofs m logs n counts (no-row-9 ps events t traced report ofs m logs n counts f j z)
+                      order (rw (k, l) at o)
+                      ∙ sym (order-merged s trace report (eventsIn events t) (reportOf ofs m logs n) (sym (ap (λ x. x .verdict) e) ∙ v)
+                      (events-read t d) (counts .read));
+                }
+
+-- a refusal has no order
+pub judged-refused : (s trace report events ofs logs : List ℕ) (r : Judged) (x : Audited) (row line : ℕ) → r ≡ noOrder x →
+    x ≡ refusal row line → row ≢ 0 → refusal row line ≡ auditOf s trace report → JudgedIn s trace report events ofs logs r
+judged-refused s trace report events ofs logs r x row line e d z v =
+    subst (JudgedIn s trace report events ofs logs) (sym (e ∙ ap noOrder d))
+    (record { meaning = v; fewEntries = omega arith; fewEvents = omega arith; ordered = λ w. absurd (z w) })
 
 -- both promises of the audit
 pub promised : (s trace report : List ℕ) (r : Audited) → r ≡ auditOf s trace report →

@@ -1,9 +1,11 @@
--- What the program prints of a result: its verdict lines, of a refusal too, whose counts are 0.
-use Prim.Native.Nat.{ℕ}
+-- What the program prints: the verdict lines, of a refusal too, whose counts are 0, and behind them the order of an accepted batch.
+use Prim.Native.Nat.{ℕ, _+_, _*_}
 use mathlib.Core.List.{List, [], _∷_, _++_}
 use Rattle.lines.specs.Bytes.{bytes}
 use Rattle.lines.specs.LineText.{lineText}
 use Rattle.writing.specs.Verdict.{verdictText}
+use Rattle.verifier.specs.Faults.{auditOf}
+use Rattle.verifier.specs.Order.{orderOf, orderText}
 use Rattle.verifier.specs.declared.Audited.{Audited}
 
 unfoldable pub auditedText : Audited → List ℕ
@@ -12,6 +14,16 @@ auditedText a =
     ++ (lineText (bytes "requests=") (a .requests ∷ [])
     ++ lineText (bytes "operations=") (a .operations ∷ []))
 
--- the most bytes of it: words and line feeds have 37, and each of the four numbers at most 20 digits
+unfoldable pub printedText : (programs trace report : List ℕ) → List ℕ
+printedText programs trace report = auditedText (auditOf programs trace report) ++ orderText 1 (orderOf programs trace report)
+
+-- The most bytes of it. Verdict lines: words and line feeds have 37, and each of the four numbers at most 20 digits.
+abbrev pub mostAudited : ℕ
+mostAudited = 117
+
+-- `op=65535,256` for each of 1,024 operations, and `event=128` for each of 128 events
+abbrev pub mostOrder : ℕ
+mostOrder = 13 * 1024 + 10 * 128
+
 abbrev pub mostPrinted : ℕ
-mostPrinted = 117
+mostPrinted = mostAudited + mostOrder

@@ -1,7 +1,8 @@
 -- What the private functions of this crate promise. The public contracts do not need it.
 use Prim.Native.Nat.{ℕ, _+_, _*_, _%_, _≤_, _<_}
 use mathlib.Core.Bool.{Bool, true, false, not, _||_}
-use mathlib.Core.List.{List, [], _∷_}
+use mathlib.Core.List.{List, [], _∷_, map}
+use mathlib.Core.Logic.{_≢_}
 use mathlib.Core.Option.{none}
 use mathlib.Core.Path.{_≡_}
 use lib.Dec.{eqb, ltb}
@@ -23,7 +24,12 @@ use Rattle.model.specs.Checks.{firstFault, contents}
 use Rattle.machine.specs.Instance.{machineOf}
 use Rattle.text.specs.Programs.{known}
 use Rattle.machine.specs.Objects.{atStart}
-use Rattle.verifier.specs.Faults.{audited}
+use Rattle.model.specs.ByRule.{itemOf}
+use Rattle.model.specs.PlainRun.{Item}
+use Rattle.replay.specs.Judges.{nodeAt, OrdersIn}
+use Rattle.verifier.specs.Faults.{audited, auditOf}
+use Rattle.verifier.specs.Order.{orderOf}
+use Rattle.verifier.specs.declared.audits.Judged.{Judged}
 use Rattle.verifier.specs.declared.Audited.{Audited}
 use Rattle.verifier.specs.declared.audits.Checked.{Checked}
 use Rattle.verifier.specs.declared.audits.Checked.the-variants.{Refused, Counts}
@@ -108,7 +114,7 @@ pub record Unbroken (events : List Event) (lines : Report) : Type 0 where
 -- rows 6 and 7: a refusal, which is that of any programs, or the counts
 abbrev pub ReportChecked : List Event → (ofs : List ℕ) (m : ℕ) (logs : List ℕ) (n : ℕ) → Checked → Type 0
 ReportChecked events ofs m logs n (Refused row line) =
-    (table : List Program) → refusal row line ≡ auditedReport table events (reportOf ofs m logs n)
+    (row ≢ 0) × ((table : List Program) → refusal row line ≡ auditedReport table events (reportOf ofs m logs n))
 ReportChecked events ofs m logs n (Counts p q) = (p ≡ m) × (q ≡ n) × Unbroken events (reportOf ofs m logs n)
 
 -- a report that was read, where no row from 4 to 7 holds
@@ -123,5 +129,22 @@ pub record BatchHeld (k : ℕ) (events : List Event) (report ofs : List ℕ) (m 
 -- rows 4 to 7: a refusal, which is that of any k programs, or a batch that stands in the arrays
 abbrev pub BatchChecked : (k : ℕ) → List Event → (report ofs logs : List ℕ) → Checked → Type 0
 BatchChecked k events report ofs logs (Refused row line) =
-    (table : List Program) → length table ≡ k → refusal row line ≡ auditedTrace table events (readReport report)
+    (row ≢ 0) × ((table : List Program) → length table ≡ k → refusal row line ≡ auditedTrace table events (readReport report))
 BatchChecked k events report ofs logs (Counts m n) = BatchHeld k events report ofs m logs n
+
+-- ── the order ──
+-- the items at the first k places of an array, of a batch with n log lines
+abbrev pub itemsIn : (events logs : List ℕ) (n : ℕ) (order : List ℕ) (k : ℕ) → List Item
+itemsIn events logs n order k = map itemOf (firsts (λ i. nodeAt events logs n (getD order i 0)) k)
+
+abbrev pub noOrder : Audited → Judged
+noOrder a = record { audited = a; events = 0 }
+
+-- what the audit finds; and where that is an acceptance, the batch stands in the arrays: places that order its items give the order
+pub record JudgedIn (programs trace report events ofs logs : List ℕ) (r : Judged) : Type 0 where
+  pub meaning : r .audited ≡ auditOf programs trace report
+  pub fewEntries : r .audited .operations ≤ 1024
+  pub fewEvents : r .events ≤ 128
+  pub ordered : r .audited .verdict ≡ 0 → (order : List ℕ) →
+      OrdersIn events (r .events) ofs (r .audited .requests) logs (r .audited .operations) order →
+      itemsIn events logs (r .audited .operations) order (r .audited .operations + r .events) ≡ orderOf programs trace report

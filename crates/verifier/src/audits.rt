@@ -1,5 +1,5 @@
 // The audit of three texts: one row after the other, up to the first fault. A struct cannot be lent, and a call that takes one copies it,
-// so the program table stays with `audit`, and only the rules and the replay get it.
+// so the program table stays with `audit_into`, and only the rules and the replay get it.
 use crate::Audited;
 use crate::report_rows::pack_claims;
 use crate::report_rows::row_6;
@@ -22,7 +22,7 @@ ghost use lib.ListN.{length};
 ghost use Rattle.model.specs.Checks.{verdict};
 ghost use Rattle.verifier.specs.Accepts.{Accepts};
 ghost use Rattle.verifier.specs.Faults.{audited, auditOf};
-ghost use Rattle.verifier.specs.Steps.{refusal, eventsIn, ReportChecked, BatchChecked};
+ghost use Rattle.verifier.specs.Steps.{refusal, eventsIn, ReportChecked, BatchChecked, noOrder, JudgedIn};
 
 // A refusal, whose counts are 0.
 fn refused(verdict: u64, line: usize) -> Audited
@@ -125,37 +125,67 @@ fn check_batch(
     }
 }
 
+// What the audit finds, and how many events an accepted batch has.
+pub struct Judged {
+    pub audited: Audited,
+    pub events: usize,
+}
+
+fn no_order(audited: Audited) -> Judged
+    ensures { λ r. ⌜ r ≡ noOrder audited ⌝ }
+{
+    Judged { audited, events: 0 }
+}
+
+// The audit of three texts. The batch goes into the arrays.
+pub(crate) fn audit_into(
+    programs: &[u8],
+    trace: &[u8],
+    report: &[u8],
+    events: &mut [u64; 640],
+    ofs: &mut [u64; 192],
+    logs: &mut [u64; 6144],
+) -> Judged
+    requires { ⌜ (length (now events) ≡ 640) × (length (now ofs) ≡ 192) × (length (now logs) ≡ 6144) ⌝ }
+    ensures { λ r. ⌜ JudgedIn (now (programs .entry)) (now (trace .entry)) (now (report .entry))
+        (now (events .exit)) (now (ofs .exit)) (now (logs .exit)) r ⌝ }
+{
+    let ps = read_programs(programs);
+    if !ps.ok {
+        return no_order(refused(1, ps.line as usize));
+    }
+    match check_rules(ps) {
+        Ruling::Broken(line) => {
+            return no_order(refused(2, line));
+        }
+        Ruling::Kept => {}
+    }
+    match read_trace(trace, events) {
+        Lines::Unreadable(line) => {
+            return no_order(refused(3, line));
+        }
+        Lines::Readable(t) => {
+            match check_batch(ps.n, events, t, report, ofs, logs) {
+                Checked::Refused(row, line) => {
+                    return no_order(refused(row, line));
+                }
+                Checked::Counts(m, n) => {
+                    let audited = result(judge(ps, events, t, ofs, m, logs, n), m, n);
+                    return Judged { audited, events: t };
+                }
+            }
+        }
+    }
+}
+
 // The verdict on three texts: the first fault, or none. Verdict 0 says that an order exists which demand 3 allows.
 pub fn audit(programs: &[u8], trace: &[u8], report: &[u8]) -> Audited
     ensures meaning { λ r. ⌜ r ≡ auditOf (now (programs .entry)) (now (trace .entry)) (now (report .entry)) ⌝ }
     ensures exactly { λ r. ⌜ (r .verdict ≡ 0) ↔ Accepts (now (programs .entry)) (now (trace .entry)) (now (report .entry)) ⌝ }
 {
-    let ps = read_programs(programs);
-    if !ps.ok {
-        return refused(1, ps.line as usize);
-    }
-    match check_rules(ps) {
-        Ruling::Broken(line) => {
-            return refused(2, line);
-        }
-        Ruling::Kept => {}
-    }
     let mut events = [0u64; 640];
-    match read_trace(trace, &mut events) {
-        Lines::Unreadable(line) => {
-            return refused(3, line);
-        }
-        Lines::Readable(t) => {
-            let mut ofs = [0u64; 192];
-            let mut logs = [0u64; 6144];
-            match check_batch(ps.n, &events, t, report, &mut ofs, &mut logs) {
-                Checked::Refused(row, line) => {
-                    return refused(row, line);
-                }
-                Checked::Counts(m, n) => {
-                    return result(judge(ps, &events, t, &ofs, m, &logs, n), m, n);
-                }
-            }
-        }
-    }
+    let mut ofs = [0u64; 192];
+    let mut logs = [0u64; 6144];
+    let j = audit_into(programs, trace, report, &mut events, &mut ofs, &mut logs);
+    j.audited
 }

@@ -1,10 +1,13 @@
 // The audit: the first fault of programs, trace and report, in the order of the scope's table.
 mod audits;
+mod orders;
 mod printing;
 mod report_rows;
 mod trace_rows;
 
 pub use audits::audit;
+pub use orders::Ordered;
+pub use orders::audit_order;
 pub use printing::audit_text;
 
 // What the audit finds: the number of the verdict with its line, and on acceptance how many `request` and how many `log` lines there are.

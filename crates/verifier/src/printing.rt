@@ -1,22 +1,26 @@
-// A result as the lines that the program prints.
+// The audit as the lines that the program prints.
 use crate::Audited;
-use crate::audits::audit;
+use crate::orders::audit_order;
 use lines::Put;
 use lines::number_width;
 use lines::put_number_line;
 use lines::written;
+use writing::order_width;
+use writing::put_order;
 use writing::put_verdict;
 use writing::verdict_width;
 ghost use mathlib.Core.Path.{_≡_};
-ghost use Prim.Native.Nat.{_≤_};
+ghost use mathlib.Core.List.{_++_};
+ghost use Prim.Native.Nat.{_≤_, min};
 ghost use lib.ListN.{length};
 ghost use Rattle.lines.specs.Put.{PutIs};
-ghost use Rattle.verifier.specs.Faults.{auditOf};
-ghost use Rattle.verifier.specs.Printed.{auditedText, mostPrinted};
+ghost use Rattle.writing.specs.Order.{itemsText};
+ghost use Rattle.verifier.specs.Printed.{auditedText, printedText, mostAudited, mostPrinted};
 
 // How long the four lines are; the words of the last two have 20 bytes.
 fn audited_width(a: Audited) -> usize
     ensures { λ r. ⌜ r ≡ length (auditedText a) ⌝ }
+    ensures { λ r. ⌜ r ≤ mostAudited ⌝ }
 {
     let verdict = verdict_width(a.verdict, a.line);
     let requests = number_width(a.requests);
@@ -39,13 +43,29 @@ fn put_audited(a: Audited, out: &mut [u8]) -> Put
     Put::Wrote(at + written(o))
 }
 
-// The audit of three texts as it is printed: its four lines to the front of out, or nothing where out is too short, which one of
-// `mostPrinted` bytes never is.
-pub fn audit_text(programs: &[u8], trace: &[u8], report: &[u8], out: &mut [u8]) -> Put
-    ensures printed { λ r. ⌜ PutIs
-        (auditedText (auditOf (now (programs .entry)) (now (trace .entry)) (now (report .entry))))
-        (now (out .entry)) (now (out .exit)) r ⌝ }
-    ensures most { λ _. ⌜ length (auditedText (auditOf (now (programs .entry)) (now (trace .entry)) (now (report .entry)))) ≤ mostPrinted ⌝ }
+// Writes the verdict lines and the first n items of an order to the front of out, or nothing where out is too short.
+fn put_printed(a: Audited, items: &[u64; 2304], n: usize, out: &mut [u8]) -> Put
+    ensures { λ r. ⌜ PutIs (auditedText a ++ itemsText (now (items .entry)) (min n 1152)) (now (out .entry)) (now (out .exit)) r ⌝ }
+    ensures { λ _. ⌜ length (auditedText a) ≤ mostAudited ⌝ }
 {
-    put_audited(audit(programs, trace, report), out)
+    if out.len() < audited_width(a) + order_width(items, n) {
+        return Put::Short;
+    }
+    let v = put_audited(a, out);
+    let at = written(v);
+    let o = put_order(&mut out[at..], items, n);
+    Put::Wrote(at + written(o))
+}
+
+// The audit of three texts as it is printed: its four lines and the order of an accepted batch to the front of out, or nothing where out is
+// too short, which one of `mostPrinted` bytes never is.
+pub fn audit_text(programs: &[u8], trace: &[u8], report: &[u8], out: &mut [u8]) -> Put
+    ensures printed { λ r. ⌜ PutIs (printedText (now (programs .entry)) (now (trace .entry)) (now (report .entry)))
+        (now (out .entry)) (now (out .exit)) r ⌝ }
+    ensures most { λ _. ⌜ length (printedText (now (programs .entry)) (now (trace .entry)) (now (report .entry))) ≤ mostPrinted ⌝ }
+{
+    let mut items = [0u64; 2304];
+    let r = audit_order(programs, trace, report, &mut items);
+    let order = r.order;
+    put_printed(r.audited, &items, written(order) / 2, out)
 }

@@ -1,4 +1,5 @@
 pub mod Texts
 pub mod TraceWriting
+pub mod OrderWriting
 pub mod ReportWriting
 pub mod VerdictTexts

@@ -13,7 +13,7 @@ use Rattle.lines.proofs.LineTexts.{line-length, number-length}
 use Rattle.writing.specs.Verdict.{verdictText}
 
 -- a number of 64 bits on a line of its own
-pub number-most : {v : ℕ} → Fits w64 v → length (numbersText (v ∷ [])) ≤ 21
+number-most : {v : ℕ} → Fits w64 v → length (numbersText (v ∷ [])) ≤ 21
 number-most {v} f = omega (arith, number-length v, decimal-20 v (f .fits))
 
 module _ (verdict line : ℕ) where

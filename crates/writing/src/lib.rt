@@ -1,8 +1,11 @@
-// A trace and a report from the arrays of records, and the verdict with its line, written to the front of a lent buffer.
+// A trace and a report from the arrays of records, the verdict with its line, and an order, written to the front of a lent buffer.
+mod orders;
 mod reports;
 mod traces;
 mod verdicts;
 
+pub use orders::order_width;
+pub use orders::put_order;
 pub use reports::put_report;
 pub use reports::report_width;
 pub use traces::put_trace;

@@ -5,13 +5,13 @@ use borrow.Author.Needs.{needs}
 use Rattle.vectors.proofs.batches.run_batch.Statement.{statement}
 use Rattle.vectors.proofs.batches.run_batch.Tie as tie
 
-sub-audit : tie.Need-sub-audit
-sub-audit c =
+sub-found : tie.Need-sub-found
+sub-found c =
     let h = c .before .before .before .before in
     omega (arith, ends-within _ (h .before .before .read-header .ensures) (h .name .given .1))
 
-part-audit-start : tie.Need-part-audit-start
-part-audit-start c =
+part-found-start : tie.Need-part-found-start
+part-found-start c =
     let h = c .before .before .before .before in
     omega (arith, ends-within _ (h .before .before .read-header .ensures) (h .name .given .1))
 
@@ -34,8 +34,8 @@ run-batch-spec =
     (λ c κs. search needs)
     (λ c. search needs)
     (λ c κs. search needs)
-    sub-audit
-    part-audit-start
+    sub-found
+    part-found-start
     (λ c. search needs)
     (λ c. search needs)
     (λ c. search needs)

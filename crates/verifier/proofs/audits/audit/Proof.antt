@@ -1,86 +1,11 @@
 -- `audit` meets its contract.
-use mathlib.Core.Path.{_∙_}
-use borrow.Author.Tests.{not-true, not-false}
-use Rattle.verifier.proofs.Verdicts.{at-1, at-2, at-3, at-4-to-7, past-4-to-7, promised}
+use Rattle.verifier.proofs.Verdicts.{promised}
 use borrow.Author.Needs.{needs}
 use Rattle.verifier.proofs.audits.audit.Statement.{statement}
 use Rattle.verifier.proofs.audits.audit.Tie as tie
 
 returns : tie.Need-returns
-returns c =
-    let at-read-programs = c .before .before .before in
-    promised _ _ _ _ (c .refused .ensures ∙ at-1 _ _ _ _ (at-read-programs .read-programs .ensures) (not-true _ (c .before .if1 .taken)))
-
-returns-2 : tie.Need-returns-2
-returns-2 c =
-    let at-check-rules = c .before .before .before .before in
-    let at-if1 = at-check-rules .before in
-    let at-read-programs = at-if1 .before .before in
-    promised _ _ _ _ (c .refused2 .ensures ∙ at-2 _ _ _ _ (at-read-programs .read-programs .ensures) (not-false _ (at-if1 .if1 .left)) _
-    (at-check-rules .check-rules .ensures) _ (c .before .before .line .given .1))
-
-returns-3 : tie.Need-returns-3
-returns-3 c =
-    let at-read-trace = c .before .before .before .before in
-    let at-enum-told = at-read-trace .before .before in
-    let at-check-rules = at-enum-told .before .before in
-    let at-if1 = at-check-rules .before in
-    let at-read-programs = at-if1 .before .before in
-    promised _ _ _ _ (c .refused3 .ensures ∙ at-3 _ _ _ _ (at-read-programs .read-programs .ensures) (not-false _ (at-if1 .if1 .left)) _
-    (at-check-rules .check-rules .ensures) (at-enum-told .enum-told .given .1) _ _ (at-read-trace .read-trace .ensures) _
-    (c .before .before .line2 .given .1))
-
-returns-4 : tie.Need-returns-4
-returns-4 c =
-    let at-check-batch = c .before .before .before .before in
-    let at-t = at-check-batch .before .before .before .before .before in
-    let at-read-trace = at-t .before .before in
-    let at-enum-told = at-read-trace .before .before in
-    let at-check-rules = at-enum-told .before .before in
-    let at-if1 = at-check-rules .before in
-    let at-read-programs = at-if1 .before .before in
-    promised _ _ _ _ (c .refused4 .ensures ∙ at-4-to-7 _ _ _ _ (at-read-programs .read-programs .ensures)
-    (not-false _ (at-if1 .if1 .left)) _ (at-check-rules .check-rules .ensures) (at-enum-told .enum-told .given .1) _ _
-    (at-read-trace .read-trace .ensures) _ (at-t .t .given .1) _ _ (at-check-batch .check-batch .result)
-    (at-check-batch .check-batch .ensures) _ _ (c .before .before .row .given .1))
-
-returns-5 : tie.Need-returns-5
-returns-5 c =
-    let at-m = c .before .before .before .before .before .before in
-    let at-check-batch = at-m .before .before in
-    let at-t = at-check-batch .before .before .before .before .before in
-    let at-read-trace = at-t .before .before in
-    let at-enum-told = at-read-trace .before .before in
-    let at-check-rules = at-enum-told .before .before in
-    let at-if1 = at-check-rules .before in
-    let at-read-programs = at-if1 .before .before in
-    promised _ _ _ _ (past-4-to-7 _ _ _ _ (at-read-programs .read-programs .ensures)
-    (not-false _ (at-if1 .if1 .left)) _ (at-check-rules .check-rules .ensures) (at-enum-told .enum-told .given .1) _ _
-    (at-read-trace .read-trace .ensures) _ (at-t .t .given .1) _ _ (at-check-batch .check-batch .result)
-    (at-check-batch .check-batch .ensures) _ _ (at-m .m .given .1) _ _ (c .result .ensures) (c .before .judge .ensures))
+returns c = promised _ _ _ _ (c .before .audit-into .ensures .meaning)
 
 pub audit-spec : {M : Type 1} → statement M
-audit-spec =
-    tie.close
-    (tie.spec
-    (λ c κs. search needs)
-    (λ c κs. search needs)
-    returns
-    (λ c κs. search needs)
-    (λ c. search needs)
-    (λ c κs. search needs)
-    returns-2
-    (λ c. search needs)
-    (λ c κs. search needs)
-    (λ c. search needs)
-    (λ c κs. search needs)
-    returns-3
-    (λ c. search needs)
-    (λ c κs. search needs)
-    (λ c. search needs)
-    (λ c κs. search needs)
-    returns-4
-    (λ c. search needs)
-    (λ c κs. search needs)
-    (λ c κs. search needs)
-    returns-5)
+audit-spec = tie.close (tie.spec (λ c κs. search needs) returns)

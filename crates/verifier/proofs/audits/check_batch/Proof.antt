@@ -1,4 +1,5 @@
 -- `check_batch` meets its contract.
+use native.Mathlib.Omega.{arith}
 use Rattle.verifier.specs.Steps.{eventsIn}
 use Rattle.machine.proofs.Rulings.{broken, kept}
 use Rattle.verifier.proofs.Verdicts.{refused-4, refused-4-open, refused-5, report-few, past-report}
@@ -9,19 +10,23 @@ use Rattle.verifier.proofs.audits.check_batch.Tie as tie
 returns : tie.Need-returns
 returns c =
     let at-row-4 = c .before .before .before in
-    let a = at-row-4 .before .before .args in
-    refused-4 (a .programs) (eventsIn (a .events .now) (a .t)) (a .report .now) _
-    (broken _ _ _ (at-row-4 .row-4 .ensures) (c .before .line .given .1))
+    let a = at-row-4 .before .before .args in (
+      λ e. omega arith,
+      refused-4 (a .programs) (eventsIn (a .events .now) (a .t)) (a .report .now) _
+          (broken _ _ _ (at-row-4 .row-4 .ensures) (c .before .line .given .1)),
+    )
 
 returns-2 : tie.Need-returns-2
 returns-2 c =
     let at-row-4-open = c .before .before .before in
     let at-enum-told = at-row-4-open .before in
     let at-row-4 = at-enum-told .before .before in
-    let a = at-row-4 .before .before .args in
-    refused-4-open (a .programs) (eventsIn (a .events .now) (a .t)) (a .report .now)
-    (kept _ _ (at-row-4 .row-4 .ensures) (at-enum-told .enum-told .given .1)) _
-    (broken _ _ _ (at-row-4-open .row-4-open .ensures) (c .before .line2 .given .1))
+    let a = at-row-4 .before .before .args in (
+      λ e. omega arith,
+      refused-4-open (a .programs) (eventsIn (a .events .now) (a .t)) (a .report .now)
+          (kept _ _ (at-row-4 .row-4 .ensures) (at-enum-told .enum-told .given .1)) _
+          (broken _ _ _ (at-row-4-open .row-4-open .ensures) (c .before .line2 .given .1)),
+    )
 
 returns-3 : tie.Need-returns-3
 returns-3 c =
@@ -30,11 +35,13 @@ returns-3 c =
     let at-row-4-open = at-enum-told2 .before .before in
     let at-enum-told = at-row-4-open .before in
     let at-row-4 = at-enum-told .before .before in
-    let a = at-row-4 .before .before .args in
-    refused-5 (a .programs) (eventsIn (a .events .now) (a .t)) (a .report .now)
-    (kept _ _ (at-row-4 .row-4 .ensures) (at-enum-told .enum-told .given .1))
-    (kept _ _ (at-row-4-open .row-4-open .ensures) (at-enum-told2 .enum-told2 .given .1)) _ _ _ (at-read-report .read-report .ensures) _
-    (c .before .line3 .given .1)
+    let a = at-row-4 .before .before .args in (
+      λ e. omega arith,
+      refused-5 (a .programs) (eventsIn (a .events .now) (a .t)) (a .report .now)
+          (kept _ _ (at-row-4 .row-4 .ensures) (at-enum-told .enum-told .given .1))
+          (kept _ _ (at-row-4-open .row-4-open .ensures) (at-enum-told2 .enum-told2 .given .1)) _ _ _ (at-read-report .read-report .ensures) _
+          (c .before .line3 .given .1),
+    )
 
 check-report-requires : tie.Need-check-report-requires
 check-report-requires c κs =

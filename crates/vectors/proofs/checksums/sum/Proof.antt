@@ -5,8 +5,8 @@ use lib.ListN.{length, drop}
 use Rattle.vectors.specs.Sums.{sumOf}
 use Rattle.vectors.proofs.Sums.{sum-step, sum-end}
 use borrow.Author.Needs.{needs}
-use Rattle.vectors.proofs.schedules.sum.Statement.{statement}
-use Rattle.vectors.proofs.schedules.sum.Tie as tie
+use Rattle.vectors.proofs.checksums.sum.Statement.{statement}
+use Rattle.vectors.proofs.checksums.sum.Tie as tie
 
 abbrev Inv-loop : tie.InvT-loop
 Inv-loop s h₀ i₀ h i = (i ≤ length s) × (h < 4294967291) × (sumOf h (drop i s) ≡ sumOf 0 s)

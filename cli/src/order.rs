@@ -1,0 +1,259 @@
+//! `teaselshears order`: how an accepted batch could have gone, told to a person. The order is the proved library's; the words are
+//! found here by following it.
+
+use crate::answer::Item;
+use crate::arguments::{self, HELP, MISSING_AS_EMPTY};
+use crate::audit::missing;
+use crate::findings::Finding;
+use crate::formats;
+use crate::help;
+use crate::outcome::{print, say, NotRun, Status};
+use crate::proved::Proved;
+use crate::shown;
+use crate::texts::{Text, Texts, BATCH};
+use std::collections::BTreeMap;
+use std::ffi::OsString;
+use std::path::Path;
+
+pub fn run(words: impl Iterator<Item = OsString>) -> Result<Status, NotRun> {
+    let given = arguments::read(words, &[HELP, MISSING_AS_EMPTY])?;
+    if given.has(&HELP) {
+        return help::print(help::ORDER);
+    }
+    let [folder] = given.exactly("one folder is")?;
+    let texts = Texts::read(Path::new(folder), &BATCH, missing(&given))?;
+    let (finding, _) = Finding::audit(folder.to_owned(), &texts, &mut Proved::new())?;
+    if let Some(order) = &finding.order {
+        let told = told(order, &texts).ok_or_else(|| {
+            NotRun::new("the library's order names an operation that has no log line")
+        })?;
+        print(told.as_bytes())?;
+    }
+    say(&finding.sentence);
+    Ok(finding.state.status())
+}
+
+/// A line for each item; none where one is not in the texts, or an operation stands there twice.
+fn told(order: &[Item], texts: &Texts) -> Option<String> {
+    let [trace, report] = [Text::Trace, Text::Report].map(|text| Lines::of(text, texts));
+    let mut log = log_of(texts);
+    let mut objects = Objects::default();
+    let mut told = String::new();
+    for item in order {
+        let words = match item {
+            Item::Event(line) => trace.shown(*line)?,
+            Item::Operation { rid, num } => {
+                let (line, logged) = log.remove(&(*rid, *num))?;
+                let done = objects.follow(&logged)?;
+                format!("{}: request {rid} {done}", report.shown(line)?)
+            }
+        };
+        // As wide as the longest item, op=65535,256.
+        told.push_str(&format!("{:<12}  {words}\n", item.to_string()));
+    }
+    Some(told)
+}
+
+/// The lines of a text.
+struct Lines<'a> {
+    file: &'static str,
+    lines: Vec<&'a [u8]>,
+}
+
+impl Lines<'_> {
+    fn of(text: Text, texts: &Texts) -> Lines<'_> {
+        let lines = texts.bytes(text).split_inclusive(|byte| *byte == b'\n');
+        Lines {
+            file: text.file(),
+            lines: lines.collect(),
+        }
+    }
+
+    /// A line by its number from 1, with its place, as in the sentence of a refusal.
+    fn shown(&self, line: u64) -> Option<String> {
+        let before = usize::try_from(line).ok()?.checked_sub(1)?;
+        let bytes = shown::line(self.lines.get(before)?);
+        Some(format!("{}, line {line}: {bytes}", self.file))
+    }
+}
+
+/// What a log line says of its operation.
+struct Logged {
+    object: u64,
+    kind: u64,
+    key: u64,
+    value: u64,
+}
+
+/// The log lines with their numbers in the report, each by the rid and the number of the operation that it claims.
+fn log_of(texts: &Texts) -> BTreeMap<(u64, u64), (u64, Logged)> {
+    let records = formats::records(Text::Report, texts.bytes(Text::Report));
+    let log = records.into_iter().filter_map(|record| {
+        let [object, rid, num, kind, key, value] = record.numbers.try_into().ok()?;
+        let logged = Logged {
+            object,
+            kind,
+            key,
+            value,
+        };
+        Some(((rid, num), (record.line, logged)))
+    });
+    log.collect()
+}
+
+/// What the objects hold while an order is followed, by object and key; a register has key 0. What was never written is 0.
+#[derive(Default)]
+struct Objects(BTreeMap<(u64, u64), u64>);
+
+impl Objects {
+    /// Does an operation, and says it in words: of a read with the value that it gets.
+    fn follow(&mut self, logged: &Logged) -> Option<String> {
+        let Logged {
+            object,
+            kind,
+            key,
+            value,
+        } = *logged;
+        Some(match kind {
+            6 => format!("reads register {object} and gets {}", self.get(object, 0)),
+            7 => {
+                self.0.insert((object, 0), value);
+                format!("writes {value} to register {object}")
+            }
+            8 => {
+                let found = self.get(object, key);
+                format!("reads key {key} of store {object} and gets {found}")
+            }
+            9 => {
+                self.0.insert((object, key), value);
+                format!("puts {value} at key {key} of store {object}")
+            }
+            _ => return None,
+        })
+    }
+
+    fn get(&self, object: u64, key: u64) -> u64 {
+        self.0.get(&(object, key)).copied().unwrap_or(0)
+    }
+}
+
+#[cfg(test)]
+mod tests {
+    use super::*;
+
+    fn texts(trace: &str, report: &str) -> Texts {
+        Texts::of(vec![
+            (Text::Trace, trace.into()),
+            (Text::Report, report.into()),
+        ])
+    }
+
+    fn op(rid: u64, num: u64) -> Item {
+        Item::Operation { rid, num }
+    }
+
+    /// What is said of each operation of one request, in their order.
+    fn words(log: &[&str]) -> Vec<String> {
+        let order: Vec<Item> = (1..).zip(log).map(|(num, _)| op(1, num)).collect();
+        let told = told(&order, &texts("", &log.concat())).unwrap();
+        let words = |line: &str| line.split_once("\": request 1 ").unwrap().1.to_owned();
+        told.lines().map(words).collect()
+    }
+
+    #[test]
+    fn case_c() {
+        let trace = "request=1,0,0,0\nrequest=2,1,0,0\nresponse=1,0,1\nresponse=2,0,1\n";
+        let report = "of=1,0,2\nof=2,1,2\nlog=0,1,1,7,0,1\nlog=0,2,2,6,0,0\nlog=1,2,1,7,0,1\nlog=1,1,2,6,0,0\n";
+        let event = Item::Event;
+        let order = [
+            event(1),
+            op(1, 1),
+            event(2),
+            op(2, 1),
+            op(2, 2),
+            op(1, 2),
+            event(3),
+            event(4),
+        ];
+        let wanted = "\
+event=1       trace.txt, line 1: \"request=1,0,0,0\"
+op=1,1        report.txt, line 3: \"log=0,1,1,7,0,1\": request 1 writes 1 to register 0
+event=2       trace.txt, line 2: \"request=2,1,0,0\"
+op=2,1        report.txt, line 5: \"log=1,2,1,7,0,1\": request 2 writes 1 to register 1
+op=2,2        report.txt, line 4: \"log=0,2,2,6,0,0\": request 2 reads register 0 and gets 1
+op=1,2        report.txt, line 6: \"log=1,1,2,6,0,0\": request 1 reads register 1 and gets 1
+event=3       trace.txt, line 3: \"response=1,0,1\"
+event=4       trace.txt, line 4: \"response=2,0,1\"
+";
+        assert_eq!(told(&order, &texts(trace, report)).as_deref(), Some(wanted));
+    }
+
+    #[test]
+    fn a_register_holds_what_was_written_last() {
+        let log = [
+            "log=7,1,1,6,0,0\n",
+            "log=7,1,2,7,0,5\n",
+            "log=7,1,3,7,0,18446744073709551615\n",
+            "log=7,1,4,6,0,0\n",
+            "log=6,1,5,6,0,0\n",
+        ];
+        let wanted = [
+            "reads register 7 and gets 0",
+            "writes 5 to register 7",
+            "writes 18446744073709551615 to register 7",
+            "reads register 7 and gets 18446744073709551615",
+            "reads register 6 and gets 0",
+        ];
+        assert_eq!(words(&log), wanted);
+    }
+
+    #[test]
+    fn a_store_holds_a_value_for_each_key() {
+        let log = [
+            "log=8,1,1,8,3,0\n",
+            "log=8,1,2,9,3,10\n",
+            "log=8,1,3,9,4,20\n",
+            "log=8,1,4,8,3,0\n",
+            "log=8,1,5,8,4,0\n",
+            "log=9,1,6,8,3,0\n",
+            "log=8,1,7,9,3,0\n",
+            "log=8,1,8,8,3,0\n",
+        ];
+        let wanted = [
+            "reads key 3 of store 8 and gets 0",
+            "puts 10 at key 3 of store 8",
+            "puts 20 at key 4 of store 8",
+            "reads key 3 of store 8 and gets 10",
+            "reads key 4 of store 8 and gets 20",
+            "reads key 3 of store 9 and gets 0",
+            "puts 0 at key 3 of store 8",
+            "reads key 3 of store 8 and gets 0",
+        ];
+        assert_eq!(words(&log), wanted);
+    }
+
+    #[test]
+    fn what_is_read_follows_the_order_and_not_the_report() {
+        let log = texts("", "log=0,1,1,7,0,1\nlog=0,2,1,6,0,0\n");
+        let last = |order: &[Item]| told(order, &log).unwrap().lines().last().map(str::to_owned);
+        let read = last(&[op(1, 1), op(2, 1)]).unwrap();
+        assert!(read.ends_with("request 2 reads register 0 and gets 1"));
+        let first = told(&[op(2, 1), op(1, 1)], &log).unwrap();
+        assert!(first.contains("request 2 reads register 0 and gets 0\n"));
+    }
+
+    #[test]
+    fn what_the_texts_do_not_have_is_not_told() {
+        let texts = texts("request=1,0,0,0\n", "of=1,0,1\nlog=0,1,1,7,0,1\n");
+        for order in [
+            &[Item::Event(0)][..],
+            &[Item::Event(2)],
+            &[Item::Event(u64::MAX)],
+            &[op(1, 2)],
+            &[op(2, 1)],
+            &[op(1, 1), op(1, 1)],
+        ] {
+            assert_eq!(told(order, &texts), None, "{order:?}");
+        }
+    }
+}

@@ -1,0 +1,38 @@
+-- `put_order` meets its contract.
+use mathlib.Core.Path.{refl, sym}
+use native.Mathlib.Omega.{arith}
+use lib.Seq.{length-take-le}
+use borrow.Author.Needs.{needs}
+use Rattle.replay.proofs.Items.{merge-returns, merge-orders}
+use Rattle.replay.proofs.orders.put_order.Statement.{statement}
+use Rattle.replay.proofs.orders.put_order.Tie as tie
+
+slice-aggregate-merge : tie.Need-slice-aggregate-merge
+slice-aggregate-merge c =
+    let p = c .before .before .before .before .before .pre in
+    sym (length-take-le _ _ (omega (arith, p .0, p .2, c .before .put-items .ensures .lane-room)))
+
+returns : tie.Need-returns
+returns c =
+    let m = c .before .merge .ensures in
+    let at-put-items = c .before .before .before .before .before .before in
+    let start = at-put-items .before .before .before .before in
+    let p = start .pre in
+    let w = at-put-items .put-items .ensures in
+    let o = start .args .order .now in (
+      merge-returns _ _ _ _ _ _ (p .0) (p .1) (p .2) _ _ _ w _ o refl (p .3) _ (m .1),
+      merge-orders _ _ _ _ _ _ (p .0) (p .1) (p .2) _ _ _ w _ o refl (p .3) _ (m .1) _ (m .0),
+    )
+
+pub put-order-spec : {M : Type 1} → statement M
+put-order-spec =
+    tie.close
+    (tie.spec
+    (λ c κs. search needs)
+    (λ c. search needs)
+    (λ c. search needs)
+    slice-aggregate-merge
+    (λ c. search needs)
+    (λ c. search needs)
+    (λ c κs. search needs)
+    returns)

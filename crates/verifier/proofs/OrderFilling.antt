@@ -1,0 +1,174 @@
+-- The order in numbers, written item by item, and what is left of it in a lent slice.
+use Prim.Native.Nat.{ℕ, suc, _+_, _*_, _-_, _≤_, _<_}
+use mathlib.Core.Bool.{Bool, true, false, cond}
+use mathlib.Core.List.{List, [], _∷_, _++_, map, append-assoc, append-nil}
+use mathlib.Core.Logic.{_≢_}
+use mathlib.Core.Path.{_≡_, refl, sym, ap, _∙_, subst}
+use native.Mathlib.Omega.{arith}
+use borrow.Author.Tests.{lt-ltb, le-ltb}
+use lib.Dec.{ltb}
+use lib.ListN.{length, length-map, getD, set, drop, length-append, length-drop}
+use Rattle.lines.specs.Put.{front, PutIs}
+use Rattle.lines.specs.declared.writer.Put.{Put}
+use Rattle.lines.specs.declared.writer.Put.the-variants.{Wrote, Short}
+use Rattle.lines.proofs.Puts.{put-short, put-fits, front-none, front-two}
+use Rattle.text.specs.Held.{eventAt, entryAt}
+use Rattle.text.specs.Rows.{firsts}
+use Rattle.text.specs.declared.report.Entry.{Entry}
+use Rattle.text.proofs.RowLaws.{firsts-length, firsts-same, firsts-split}
+use Rattle.model.specs.Batch.{Node, ev, ln}
+use Rattle.model.specs.ByRule.{itemOf}
+use Rattle.model.specs.PlainRun.{Item, event, operation}
+use Rattle.replay.specs.Judges.{nodeAt, OrdersIn}
+use Rattle.verifier.specs.Faults.{auditOf}
+use Rattle.verifier.specs.Order.{orderOf, orderNumbers}
+use Rattle.verifier.specs.OrderRead.{OrderRead}
+use Rattle.verifier.specs.Steps.{itemsIn, JudgedIn}
+use Rattle.verifier.specs.declared.audits.Judged.{Judged}
+use Rattle.verifier.proofs.OrderReads.{order-none, order-read}
+use Rattle.verifier.proofs.OrderTexts.{numbers-length}
+
+module _ (events logs : List ℕ) (n : ℕ) (order : List ℕ) (k : ℕ) (o : List ℕ) where
+  abbrev node : ℕ → Node
+  node i = nodeAt events logs n (getD order i 0)
+
+  -- the items from i on
+  abbrev from : ℕ → List Item
+  from i = map itemOf (firsts (λ j. node (i + j)) (k - i))
+
+  -- the first i items stand in front of out; `line` events are among them
+  pub record Filling (out : List ℕ) (line i : ℕ) : Type 0 where
+    pub some : i ≤ k
+    pub few : line ≤ i
+    pub room : 2 * k ≤ length o
+    pub done : List ℕ
+    pub so-far : length done ≡ 2 * i
+    pub written : out ≡ front done o
+    pub rest : orderNumbers 1 (itemsIn events logs n order k) ≡ done ++ orderNumbers (line + 1) (from i)
+
+  from-start : from 0 ≡ itemsIn events logs n order k
+  from-start =
+      let z : k - 0 ≡ k = omega arith in
+      ap (λ m. map itemOf (firsts (λ j. node (0 + j)) m)) z
+      ∙ ap (map itemOf) (firsts-same (λ j. node (0 + j)) node k (λ j _. let e : 0 + j ≡ j = omega arith in ap node e))
+
+  pub filling-start : 2 * k ≤ length o → Filling o 0 0
+  filling-start h = record {
+    some = omega arith;
+    few = omega arith;
+    room = h;
+    done = [];
+    so-far = omega arith;
+    written = front-none o;
+    rest = sym (ap (orderNumbers 1) from-start);
+  }
+
+  pub filling-length : (out : List ℕ) (line i : ℕ) → Filling out line i → length out ≡ length o
+  unfolding front
+  filling-length out line i f =
+      omega (
+        arith,
+        f .some,
+        f .room,
+        f .so-far,
+        ap length (f .written),
+        length-append (f .done) (drop (length (f .done)) o),
+        length-drop (length (f .done)) o,
+      )
+
+  module _ (out : List ℕ) (line i : ℕ) (f : Filling out line i) (h : i < k) where
+    pub filling-room : 2 * i + 2 ≤ length out
+    filling-room = omega (arith, f .room, filling-length out line i f)
+
+    -- one item more, which is a and b in numbers
+    next : (a b line′ : ℕ) → line′ ≤ i + 1 →
+        orderNumbers (line + 1) (itemOf (node i) ∷ from (i + 1)) ≡ a ∷ b ∷ orderNumbers (line′ + 1) (from (i + 1)) →
+        Filling (set (set out (2 * i) a) (2 * i + 1) b) line′ (i + 1)
+    next a b line′ l e =
+        let more = f .done ++ (a ∷ b ∷ []) in
+        let long : length more ≡ 2 * (i + 1) = length-append (f .done) (a ∷ b ∷ []) ∙ omega (arith, f .so-far) in
+        record {
+          some = omega arith;
+          few = l;
+          room = f .room;
+          done = more;
+          so-far = long;
+          written = front-two (f .done) more a b o out (2 * i) refl (sym (f .so-far)) (f .written) (omega (arith, long, f .room));
+          rest =
+              f .rest ∙ ap (λ xs. f .done ++ orderNumbers (line + 1) (map itemOf xs)) (firsts-split node i k h) ∙ ap (λ t. f .done ++ t) e
+              ∙ sym (append-assoc (f .done) (a ∷ b ∷ []) (orderNumbers (line′ + 1) (from (i + 1))));
+        }
+
+    -- which is an operation, or an event
+    module _ (p : ℕ) (d : p ≡ getD order i 0) where
+      node-is : (t : Bool) → ltb p n ≡ t → node i ≡ cond t (ln (entryAt logs p)) (ev (eventAt events (p - n)))
+      node-is t e =
+          ap (nodeAt events logs n) (sym d) ∙ ap (λ (t : Bool). cond t (ln (entryAt logs p)) (ev (eventAt events (p - n)))) e
+
+      pub filling-operation : p < n → (x : Entry) → x ≡ entryAt logs p → (out′ : List ℕ) →
+          out′ ≡ set (set out (2 * i) (x .rid)) (2 * i + 1) (x .num) → Filling out′ line (i + 1)
+      unfolding orderNumbers
+      filling-operation l x q out′ w =
+          subst (λ t. Filling t line (i + 1)) (sym w)
+          (next (x .rid) (x .num) line (omega (arith, f .few))
+          (ap (λ y. orderNumbers (line + 1) (itemOf y ∷ from (i + 1))) (node-is true (lt-ltb p n l))
+          ∙ ap (λ x. x .rid ∷ x .num ∷ orderNumbers (line + 1) (from (i + 1))) (sym q)))
+
+      pub filling-event : n ≤ p → (out′ : List ℕ) → out′ ≡ set (set out (2 * i) (line + 1)) (2 * i + 1) 0 → Filling out′ (line + 1) (i + 1)
+      unfolding orderNumbers
+      filling-event l out′ w =
+          let m : suc (line + 1) ≡ line + 1 + 1 = omega arith in
+          subst (λ t. Filling t (line + 1) (i + 1)) (sym w)
+          (next (line + 1) 0 (line + 1) (omega (arith, f .few))
+          (ap (λ y. orderNumbers (line + 1) (itemOf y ∷ from (i + 1))) (node-is false (le-ltb p n l))
+          ∙ ap (λ m. (line + 1) ∷ 0 ∷ orderNumbers m (from (i + 1))) m))
+
+  pub filling-done : (out : List ℕ) (line i : ℕ) → Filling out line i → k ≤ i →
+      out ≡ front (orderNumbers 1 (itemsIn events logs n order k)) o
+  unfolding firsts orderNumbers
+  filling-done out line i f h =
+      let z : k - i ≡ 0 = omega arith in
+      let e : orderNumbers 1 (itemsIn events logs n order k) ≡ f .done =
+      f .rest ∙ ap (λ m. f .done ++ orderNumbers (line + 1) (map itemOf (firsts (λ j. node (i + j)) m))) z ∙ append-nil (f .done) in
+      f .written ∙ ap (λ t. front t o) (sym e)
+
+-- ── what `audit_order` leaves of the order ──
+module _ (s trace report events ofs logs o : List ℕ) (r : Judged) (j : JudgedIn s trace report events ofs logs r) where
+  abbrev numbers : List ℕ
+  numbers = orderNumbers 1 (orderOf s trace report)
+
+  abbrev Ordered : List ℕ → Put → Type 0
+  Ordered out p =
+      (r .audited ≡ auditOf s trace report)
+      × (PutIs (orderNumbers 1 (orderOf s trace report)) o out p
+      × (r .audited .verdict ≡ 0 → OrderRead s trace report (orderOf s trace report)))
+
+  ordered : (out : List ℕ) (p : Put) → PutIs numbers o out p → Ordered out p
+  ordered out p h = (j .meaning, (h, λ v. order-read s trace report (sym (ap (λ a. a .verdict) (j .meaning)) ∙ v)))
+
+  pub ordered-refused : r .audited .verdict ≢ 0 → Ordered o (Wrote 0)
+  unfolding orderNumbers
+  ordered-refused h =
+      let e : [] ≡ numbers = sym (ap (orderNumbers 1) (order-none s trace report (λ z. h (ap (λ a. a .verdict) (j .meaning) ∙ z)))) in
+      ordered o (Wrote 0) (subst (λ t. PutIs t o o (Wrote 0)) e (put-fits [] o o 0 (omega arith) refl (front-none o)))
+
+  module _ (v : r .audited .verdict ≡ 0) (order : List ℕ)
+      (d : OrdersIn events (r .events) ofs (r .audited .requests) logs (r .audited .operations) order) where
+    abbrev count : ℕ
+    count = r .audited .operations + r .events
+
+    numbers-long : length numbers ≡ 2 * count
+    numbers-long =
+        let node : ℕ → Node = λ i. nodeAt events logs (r .audited .operations) (getD order i 0) in
+        ap (λ xs. length (orderNumbers 1 xs)) (sym (j .ordered v order d)) ∙ numbers-length 1 (map itemOf (firsts node count))
+        ∙ ap (λ m. 2 * m) (length-map (firsts node count) itemOf ∙ firsts-length node count)
+
+    pub ordered-short : length o < 2 * (r .audited .operations + r .events) → Ordered o Short
+    ordered-short h = ordered o Short (put-short numbers o (omega (arith, numbers-long)))
+
+    pub ordered-put : 2 * (r .audited .operations + r .events) ≤ length o → (out : List ℕ) →
+        out ≡ front (orderNumbers 1 (itemsIn events logs (r .audited .operations) order (r .audited .operations + r .events))) o →
+        Ordered out (Wrote (2 * (r .audited .operations + r .events)))
+    ordered-put h out e =
+        ordered out (Wrote (2 * count)) (put-fits numbers o out (2 * count) (omega (arith, numbers-long)) (sym numbers-long)
+        (e ∙ ap (λ xs. front (orderNumbers 1 xs) o) (j .ordered v order d)))
