@@ -14,7 +14,7 @@ use Rattle.lines.specs.Parts.{until, parts, onto}
 use Rattle.lines.specs.Place.{line, field, lineEnd, spell, spelledAt}
 use Rattle.lines.specs.Steps.{endsOf, spelling, commaAt}
 use Rattle.lines.proofs.Parts.{until-at, until-go, parts-at, parts-go}
-use Rattle.lines.proofs.Numerals.{push-none}
+use Rattle.lines.proofs.Numerals.{push-none, push-value}
 use Rattle.lines.specs.declared.numbers.Numeral.{Numeral}
 use Rattle.lines.specs.declared.numbers.Numeral.the-variants.{Value, Not}
 use Rattle.lines.specs.declared.numbers.Spelled.{Spelled}
@@ -131,35 +131,58 @@ spelled-nothing s at e = rw e refl
 pub spelled-out : (s : List ℕ) (at : ℕ) → length s ≤ at → Broken ≡ spelledAt s at
 spelled-out s at h = spelled-nothing s at (field-out s at h)
 
-pub spelled-stop : (s : List ℕ) (at : ℕ) → at < length s → endsOf (getD s at 0) ≡ true → Broken ≡ spelledAt s at
-spelled-stop s at h e = spelled-nothing s at (field-stop s at h e)
-
-module _ (s : List ℕ) (at : ℕ) (h : at < length s) (e : endsOf (getD s at 0) ≡ false) where
-  pub spelled-digits : (getD s at 0 ≡ 48 → ⊥) → spelling 0 s at ≡ spelledAt s at
+module _ (s : List ℕ) (at : ℕ) (h : at < length s) where
+  spelled-as-digits : endsOf (getD s at 0) ≡ false → (getD s at 0 ≡ 48 → ⊥) → spelling 0 s at ≡ spelledAt s at
   unfolding spelling spelledAt numberOf
-  spelled-digits n = rw (field-on s at h e, ne-eqb (getD s at 0) 48 n, numberOf) refl
+  spelled-as-digits e n = rw (field-on s at h e, ne-eqb (getD s at 0) 48 n, numberOf) refl
 
-  spelled-zero : getD s at 0 ≡ 48 → field (drop (at + 1) s) ≡ [] → Ended 0 (at + 1) ≡ spelledAt s at
-  unfolding spelledAt numberOf
-  spelled-zero n f = rw (field-on s at h e, eq-eqb (getD s at 0) 48 n, f, numberOf) refl
+  -- no digit stands there
+  pub spelled-none : (48 ≤ getD s at 0 → 57 < getD s at 0) → Broken ≡ spelledAt s at
+  spelled-none n = go (endsOf (getD s at 0)) refl
+    where
+      go : (x : Bool) → endsOf (getD s at 0) ≡ x → Broken ≡ spelledAt s at
+      go true e = spelled-nothing s at (field-stop s at h e)
+      go false e =
+          sym (spelling-bad 0 s at h e (push-none 0 _ n))
+          ∙ spelled-as-digits e (λ (k : getD s at 0 ≡ 48). let l : 57 < getD s at 0 = n (omega arith) in omega arith)
 
-  pub spelled-zero-out : getD s at 0 ≡ 48 → length s ≤ at + 1 → Ended 0 (at + 1) ≡ spelledAt s at
-  spelled-zero-out n k = spelled-zero n (field-out s (at + 1) k)
+  -- a digit stands there
+  module _ (d : ℕ) (is : d + 48 ≡ getD s at 0) (k : d ≤ 9) where
+    first : Value d ≡ pushOf 0 (getD s at 0)
+    first = push-value 0 _ d is k d (omega arith) (omega arith)
 
-  pub spelled-zero-stop : getD s at 0 ≡ 48 → at + 1 < length s → endsOf (getD s (at + 1) 0) ≡ true →
-      Ended 0 (at + 1) ≡ spelledAt s at
-  spelled-zero-stop n k g = spelled-zero n (field-stop s (at + 1) k g)
+    on : endsOf (getD s at 0) ≡ false
+    on = digit-goes-on 0 _ d first
 
-  pub spelled-lead : getD s at 0 ≡ 48 → at + 1 < length s → endsOf (getD s (at + 1) 0) ≡ false → Broken ≡ spelledAt s at
-  unfolding spelledAt numberOf
-  spelled-lead n k g =
-      let l : length (field (drop (at + 1) s)) ≡ suc (length (field (drop (at + 1 + 1) s))) = ap length (field-on s (at + 1) k g) in
-      rw (
-        field-on s at h e,
-        eq-eqb (getD s at 0) 48 n,
-        ne-eqb (length (field (drop (at + 1) s))) 0 (omega (arith, l)),
-        numberOf,
-      ) refl
+    pub spelled-digits : (d ≡ 0 → ⊥) → spelling d s (at + 1) ≡ spelledAt s at
+    spelled-digits n =
+        sym (spelling-on 0 d s at h first) ∙ spelled-as-digits on (λ (e : getD s at 0 ≡ 48). n (omega arith))
+
+    module _ (n : d ≡ 0) where
+      zero-there : getD s at 0 ≡ 48
+      zero-there = omega arith
+
+      spelled-zero : field (drop (at + 1) s) ≡ [] → Ended 0 (at + 1) ≡ spelledAt s at
+      unfolding spelledAt numberOf
+      spelled-zero f = rw (field-on s at h on, eq-eqb (getD s at 0) 48 zero-there, f, numberOf) refl
+
+      pub spelled-zero-out : length s ≤ at + 1 → Ended 0 (at + 1) ≡ spelledAt s at
+      spelled-zero-out l = spelled-zero (field-out s (at + 1) l)
+
+      pub spelled-zero-stop : at + 1 < length s → endsOf (getD s (at + 1) 0) ≡ true → Ended 0 (at + 1) ≡ spelledAt s at
+      spelled-zero-stop l g = spelled-zero (field-stop s (at + 1) l g)
+
+      pub spelled-lead : at + 1 < length s → endsOf (getD s (at + 1) 0) ≡ false → Broken ≡ spelledAt s at
+      unfolding spelledAt numberOf
+      spelled-lead l g =
+          let m : length (field (drop (at + 1) s)) ≡ suc (length (field (drop (at + 1 + 1) s))) =
+          ap length (field-on s (at + 1) l g) in
+          rw (
+            field-on s at h on,
+            eq-eqb (getD s at 0) 48 zero-there,
+            ne-eqb (length (field (drop (at + 1) s))) 0 (omega (arith, m)),
+            numberOf,
+          ) refl
 
 -- ── what a number that was read tells ──
 

@@ -55,12 +55,12 @@ fn ends(b: u8) -> bool
     b == 10
 }
 
-// The digits from at on, behind the number 0.
-fn digits_at(s: &[u8], at: usize) -> Spelled
+// The digits from at on, behind the number `first`.
+fn digits_at(s: &[u8], at: usize, first: u64) -> Spelled
     requires { ⌜ at ≤ length (now s) ⌝ }
-    ensures { λ r. ⌜ r ≡ spelling 0 (now (s .entry)) at ⌝ }
+    ensures { λ r. ⌜ r ≡ spelling first (now (s .entry)) at ⌝ }
 {
-    let mut v = 0;
+    let mut v = first;
     let mut i = at;
     while i < s.len() {
         let b = s[i];
@@ -87,14 +87,14 @@ pub(crate) fn number_at(s: &[u8], at: usize) -> Spelled
     if s.len() <= at {
         return Spelled::Broken;
     }
-    let b = s[at];
-    if ends(b) {
+    let d = digit(s[at]);
+    if 9 < d {
         return Spelled::Broken;
     }
-    if b != 48 {
-        return digits_at(s, at);
-    }
     let e = at + 1;
+    if d != 0 {
+        return digits_at(s, e, d);
+    }
     if s.len() <= e {
         return Spelled::Ended(0, e);
     }

@@ -7,15 +7,14 @@ use mathlib.Core.Path.{_≡_, refl, sym, ap, _∙_, subst}
 use native.Mathlib.Omega.{arith}
 use borrow.Author.Tests.{lt-ltb, le-ltb}
 use lib.Dec.{ltb}
-use lib.ListN.{length, length-map, getD, set, drop, length-append, length-drop}
+use lib.ListN.{length, getD, set, drop, length-append, length-drop}
 use Rattle.lines.specs.Put.{front, PutIs}
-use Rattle.lines.specs.declared.writer.Put.{Put}
 use Rattle.lines.specs.declared.writer.Put.the-variants.{Wrote, Short}
 use Rattle.lines.proofs.Puts.{put-short, put-fits, front-none, front-two}
 use Rattle.text.specs.Held.{eventAt, entryAt}
 use Rattle.text.specs.Rows.{firsts}
 use Rattle.text.specs.declared.report.Entry.{Entry}
-use Rattle.text.proofs.RowLaws.{firsts-length, firsts-same, firsts-split}
+use Rattle.text.proofs.RowLaws.{firsts-same, firsts-split}
 use Rattle.model.specs.Batch.{Node, ev, ln}
 use Rattle.model.specs.ByRule.{itemOf}
 use Rattle.model.specs.PlainRun.{Item, event, operation}
@@ -23,10 +22,14 @@ use Rattle.replay.specs.Judges.{nodeAt, OrdersIn}
 use Rattle.verifier.specs.Faults.{auditOf}
 use Rattle.verifier.specs.Order.{orderOf, orderNumbers}
 use Rattle.verifier.specs.OrderRead.{OrderRead}
-use Rattle.verifier.specs.Steps.{itemsIn, JudgedIn}
-use Rattle.verifier.specs.declared.audits.Judged.{Judged}
+use Rattle.verifier.specs.Steps.{refusal, itemsIn, OrderIs, noOrder}
+use Rattle.verifier.specs.declared.Audited.{Audited}
+use Rattle.verifier.specs.declared.orders.Ordered.{Ordered}
 use Rattle.verifier.proofs.OrderReads.{order-none, order-read}
 use Rattle.verifier.proofs.OrderTexts.{numbers-length}
+
+put-nothing : (o : List ℕ) → PutIs [] o o (Wrote 0)
+put-nothing o = put-fits [] o o 0 (omega arith) refl (front-none o)
 
 module _ (events logs : List ℕ) (n : ℕ) (order : List ℕ) (k : ℕ) (o : List ℕ) where
   abbrev node : ℕ → Node
@@ -132,43 +135,49 @@ module _ (events logs : List ℕ) (n : ℕ) (order : List ℕ) (k : ℕ) (o : Li
       f .rest ∙ ap (λ m. f .done ++ orderNumbers (line + 1) (map itemOf (firsts (λ j. node (i + j)) m))) z ∙ append-nil (f .done) in
       f .written ∙ ap (λ t. front t o) (sym e)
 
--- ── what `audit_order` leaves of the order ──
-module _ (s trace report events ofs logs o : List ℕ) (r : Judged) (j : JudgedIn s trace report events ofs logs r) where
+-- ── what `put_numbers` leaves ──
+module _ (events : List ℕ) (t : ℕ) (ofs : List ℕ) (m : ℕ) (logs : List ℕ) (n : ℕ) (o : List ℕ) (items : List Item)
+    (is : OrderIs events t ofs m logs n items) where
+  numbers-long : length (orderNumbers 1 items) ≡ 2 * (n + t)
+  numbers-long = numbers-length 1 items ∙ ap (λ k. 2 * k) (is .all)
+
+  pub put-none : n + t ≡ 0 → PutIs (orderNumbers 1 items) o o (Wrote 0)
+  unfolding orderNumbers
+  put-none z = subst (λ xs. PutIs (orderNumbers 1 xs) o o (Wrote 0)) (nothing items (is .all ∙ z)) (put-nothing o)
+    where
+      nothing : (xs : List Item) → length xs ≡ 0 → [] ≡ xs
+      nothing [] e = refl
+      nothing (x ∷ xs) e = absurd (omega (arith, e))
+
+  pub put-no-room : length o < 2 * (n + t) → PutIs (orderNumbers 1 items) o o Short
+  put-no-room h = put-short (orderNumbers 1 items) o (omega (arith, numbers-long))
+
+  pub put-placed : 2 * (n + t) ≤ length o → (order : List ℕ) → OrdersIn events t ofs m logs n order → (out : List ℕ) →
+      out ≡ front (orderNumbers 1 (itemsIn events logs n order (n + t))) o → PutIs (orderNumbers 1 items) o out (Wrote (2 * (n + t)))
+  put-placed h order d out e =
+      put-fits (orderNumbers 1 items) o out (2 * (n + t)) (omega (arith, numbers-long)) (sym numbers-long)
+      (e ∙ ap (λ xs. front (orderNumbers 1 xs) o) (is .placed order d))
+
+-- ── what `audit_order` promises ──
+module _ (s trace report o : List ℕ) where
   abbrev numbers : List ℕ
   numbers = orderNumbers 1 (orderOf s trace report)
 
-  abbrev Ordered : List ℕ → Put → Type 0
-  Ordered out p =
+  abbrev Promised : List ℕ → Ordered → Type 0
+  Promised out r =
       (r .audited ≡ auditOf s trace report)
-      × (PutIs (orderNumbers 1 (orderOf s trace report)) o out p
-      × (r .audited .verdict ≡ 0 → OrderRead s trace report (orderOf s trace report)))
+      × (PutIs numbers o out (r .order) × (r .audited .verdict ≡ 0 → OrderRead s trace report (orderOf s trace report)))
 
-  ordered : (out : List ℕ) (p : Put) → PutIs numbers o out p → Ordered out p
-  ordered out p h = (j .meaning, (h, λ v. order-read s trace report (sym (ap (λ a. a .verdict) (j .meaning)) ∙ v)))
+  pub ordered : (out : List ℕ) (r : Ordered) → r .audited ≡ auditOf s trace report → PutIs numbers o out (r .order) → Promised out r
+  ordered out r e h = (e, (h, λ v. order-read s trace report (sym (ap (λ a. a .verdict) e) ∙ v)))
 
-  pub ordered-refused : r .audited .verdict ≢ 0 → Ordered o (Wrote 0)
+  -- a refused batch has no order
+  pub ordered-none : (r : Ordered) (x : Audited) → r ≡ noOrder x → x ≡ auditOf s trace report → x .verdict ≢ 0 → Promised o r
   unfolding orderNumbers
-  ordered-refused h =
-      let e : [] ≡ numbers = sym (ap (orderNumbers 1) (order-none s trace report (λ z. h (ap (λ a. a .verdict) (j .meaning) ∙ z)))) in
-      ordered o (Wrote 0) (subst (λ t. PutIs t o o (Wrote 0)) e (put-fits [] o o 0 (omega arith) refl (front-none o)))
+  ordered-none r x d e h =
+      let z : [] ≡ numbers = sym (ap (orderNumbers 1) (order-none s trace report (λ v. h (ap (λ a. a .verdict) e ∙ v)))) in
+      subst (Promised o) (sym d) (ordered o (noOrder x) e (subst (λ t. PutIs t o o (Wrote 0)) z (put-nothing o)))
 
-  module _ (v : r .audited .verdict ≡ 0) (order : List ℕ)
-      (d : OrdersIn events (r .events) ofs (r .audited .requests) logs (r .audited .operations) order) where
-    abbrev count : ℕ
-    count = r .audited .operations + r .events
-
-    numbers-long : length numbers ≡ 2 * count
-    numbers-long =
-        let node : ℕ → Node = λ i. nodeAt events logs (r .audited .operations) (getD order i 0) in
-        ap (λ xs. length (orderNumbers 1 xs)) (sym (j .ordered v order d)) ∙ numbers-length 1 (map itemOf (firsts node count))
-        ∙ ap (λ m. 2 * m) (length-map (firsts node count) itemOf ∙ firsts-length node count)
-
-    pub ordered-short : length o < 2 * (r .audited .operations + r .events) → Ordered o Short
-    ordered-short h = ordered o Short (put-short numbers o (omega (arith, numbers-long)))
-
-    pub ordered-put : 2 * (r .audited .operations + r .events) ≤ length o → (out : List ℕ) →
-        out ≡ front (orderNumbers 1 (itemsIn events logs (r .audited .operations) order (r .audited .operations + r .events))) o →
-        Ordered out (Wrote (2 * (r .audited .operations + r .events)))
-    ordered-put h out e =
-        ordered out (Wrote (2 * count)) (put-fits numbers o out (2 * count) (omega (arith, numbers-long)) (sym numbers-long)
-        (e ∙ ap (λ xs. front (orderNumbers 1 xs) o) (j .ordered v order d)))
+  pub ordered-refused : (r : Ordered) (x : Audited) (row line : ℕ) → r ≡ noOrder x → x ≡ refusal row line → row ≢ 0 →
+      refusal row line ≡ auditOf s trace report → Promised o r
+  ordered-refused r x row line d e h v = ordered-none r x d (e ∙ v) (λ z. h (sym (ap (λ a. a .verdict) e) ∙ z))

@@ -2,7 +2,7 @@
 use Prim.Native.Nat.{ℕ, suc, _+_, _*_, _≤_}
 use mathlib.Core.Bool.{Bool, true, false}
 use mathlib.Core.List.{List, [], _∷_, map}
-use mathlib.Core.Path.{_≡_, refl, sym, _∙_, subst}
+use mathlib.Core.Path.{_≡_, refl, sym, ap, _∙_, subst}
 use native.Mathlib.Omega.{arith}
 use lib.ListN.{length, length-append}
 use Rattle.lines.specs.Bytes.{bytes}
@@ -102,6 +102,19 @@ module _ (b : Batch) (order : List Node) (o : OrderOf b order) where
       ∙ tally-append g (map ln (b .log)) (map ev (b .trace))
       ∙ (λ i. tally-map g ln (b .log) i + tally-map g ev (b .trace) i)
 
+  items-length : length (map itemOf order) ≡ length (b .log) + length (b .trace)
+  items-length =
+      omega (
+        arith,
+        items-counted (map itemOf order),
+        tally-items isOperation,
+        tally-items isEvent,
+        tally-all (b .log),
+        tally-no (b .log),
+        tally-all (b .trace),
+        tally-no (b .trace),
+      )
+
 -- ── the order of three texts ──
 pub record Ranged (xs : List Item) : Type 0 where
   pub operations : tally isOperation xs ≤ 1024
@@ -133,6 +146,13 @@ module _ (programs trace report : List ℕ) where
             numbered = all-items b order o NotZero (lines-numbered (countOf (b .ofs)) (b .log) c) (λ e. tt);
             small = all-items b order o Small (lines-small (b .log) (r .rids) (r .nums)) (λ e. tt);
           })
+
+  -- all items of an accepted batch
+  pub order-length : auditOf programs trace report .verdict ≡ 0 → (x : Readings programs trace report) →
+      length (orderOf programs trace report) ≡ length (x .lines .log) + length (x .events)
+  order-length e x =
+      ap length (order-of-read programs trace report e x)
+      ∙ items-length (batchOf (x .events) (x .lines)) _ (merge-order programs trace report e x)
 
   pub order-few : length (orderOf programs trace report) ≤ 1152
   order-few = omega (arith, items-counted (orderOf programs trace report), order-ranged .operations, order-ranged .events)

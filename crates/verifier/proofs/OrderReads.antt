@@ -33,7 +33,7 @@ module _ (programs trace report : List ℕ) where
   unfolding orderOf
   order-none h = ap (λ (t : Bool). cond t (map itemOf (mergeOf (batchRead trace report) .0)) []) (eqb-no h)
 
-  pub order-merged : (events : List Event) (lines : Report) → auditOf programs trace report .verdict ≡ 0 →
+  order-merged : (events : List Event) (lines : Report) → auditOf programs trace report .verdict ≡ 0 →
       readTrace trace ≡ readable events → readReport report ≡ readable lines →
       orderOf programs trace report ≡ map itemOf (mergeOf (batchOf events lines) .0)
   unfolding orderOf

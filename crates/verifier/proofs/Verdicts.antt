@@ -1,13 +1,13 @@
 -- The audit from one row to the next: a row that holds gives the verdict, and a row that does not leaves it to the rows behind.
 use Prim.Native.Nat.{ℕ, suc, _+_, _≤_, _<_, min}
-use mathlib.Core.Bool.{Bool, true, false, cond}
+use mathlib.Core.Bool.{true, false}
 use mathlib.Core.List.{List, [], _∷_, map}
 use mathlib.Core.Logic.{_↔_, _≢_}
 use mathlib.Core.Option.{Option, none, some}
 use mathlib.Core.Path.{_≡_, refl, sym, ap, _∙_, subst}
 use native.Mathlib.Omega.{arith}
 use borrow.Author.Tests.{ltb-true}
-use lib.Dec.{eqb, ltb}
+use lib.Dec.{ltb}
 use lib.ListN.{length, getD}
 use Rattle.text.specs.Held.{Bounded, eventAt, ofAt, entryAt, readIn, reportIn, programAt, programsIn, TraceIs, ReportIs, ProgramsIs, ofsIn, logsIn, tableIn, reportOf}
 use Rattle.text.specs.Held as held
@@ -34,7 +34,6 @@ use Rattle.model.specs.Batch.{Batch, batchOf}
 use Rattle.model.specs.Nodes.{mergeOf}
 use Rattle.model.specs.ByRule.{itemOf}
 use Rattle.model.specs.Checks.{Verdict, verdict, faultOr, firstFault, badLine, contents}
-use Rattle.ordering.proofs.Basics.{byBool, eqb-yes}
 use Rattle.model.proofs.Scans.{holds, passes, passed}
 use Rattle.model.proofs.Trace.{Matching, row4-order, row6-matching}
 use Rattle.machine.specs.Instance.{gone, machineOf}
@@ -50,6 +49,8 @@ use Rattle.replay.specs.Judges.{batchHeld, batchIn, Ready, Judges, Orders, Orde
 use Rattle.replay.specs.declared.Fault.{Fault}
 use Rattle.verifier.specs.Accepts.{Accepts}
 use Rattle.verifier.specs.Faults.{checksOf, audited, auditedOf, auditOf}
+use Rattle.verifier.specs.Order.{orderOf}
+use Rattle.verifier.specs.Readings.{Readings}
 use Rattle.verifier.specs.Steps.{
   refusal,
   eventsIn,
@@ -59,16 +60,15 @@ use Rattle.verifier.specs.Steps.{
   BatchHeld,
   BatchChecked,
   itemsIn,
-  noOrder,
-  JudgedIn,
+  OrderIs,
 }
 use Rattle.verifier.specs.declared.Audited.{Audited}
 use Rattle.verifier.specs.declared.audits.Checked.{Checked}
-use Rattle.verifier.specs.declared.audits.Judged.{Judged}
 use Rattle.verifier.specs.declared.audits.Checked.the-variants.{Refused}
 use Rattle.verifier.specs.declared.audits.Checked.the-variants as checked
 use Rattle.verifier.proofs.Acceptance.{audit-accepts}
-use Rattle.verifier.proofs.OrderReads.{order-merged}
+use Rattle.verifier.proofs.OrderRanges.{order-length}
+use Rattle.verifier.proofs.OrderReads.{order-of-read}
 use Rattle.verifier.proofs.ReportRanges.{report-in-range}
 
 -- ── rows 6 and 7 ──
@@ -286,6 +286,13 @@ module _ (table : List Program) (trace : Read (List Event)) (report : Read Repor
         let v : rows4 table events report ≡ rows1 = passes verdict 3 (badLine trace) _ (ap badLine e) ∙ passes verdict 2 (row2 table) _ d in
         ap (λ y. auditedTrace table (contents [] y) report) (sym e) ∙ ap countedAll v
 
+-- what rows 8 to 12 leave of a batch that stands in the arrays: the audit's result, and the order of an accepted batch
+pub record Found (s trace report events : List ℕ) (t : ℕ) (ofs : List ℕ) (m : ℕ) (logs : List ℕ) (n : ℕ) (x : Audited) : Type 0 where
+  pub meaning : x ≡ auditOf s trace report
+  pub fewEvents : t ≤ 128
+  pub fewEntries : n ≤ 1024
+  pub order : x .verdict ≡ 0 → OrderIs events t ofs m logs n (orderOf s trace report)
+
 module _ (s trace report : List ℕ) (ps : Programs) (h : ProgramsIs s ps) where
   pub at-1 : ps .ok ≡ false → refusal 1 (ps .line) ≡ auditOf s trace report
   unfolding auditOf programsIn
@@ -343,37 +350,38 @@ module _ (s trace report : List ℕ) (ps : Programs) (h : ProgramsIs s ps) where
             traced : TraceHeld ps t
             traced = trace-held l events g t d
 
-            -- an acceptance counts all, and a refusal nothing
-            counted-at-most : (v : Verdict) → audited v m n .operations ≤ n
-            counted-at-most v = byBool (eqb (v .number) 0)
-                (λ e. omega (arith, ap (λ (t : Bool). cond t n 0) e))
-                (λ e. omega (arith, ap (λ (t : Bool). cond t n 0) e))
+            -- all three texts were read
+            abbrev readings : Readings s trace report
+            readings = record {
+              table = tableIn ps;
+              tableRead = sym (table-read s ps h ok);
+              events = eventsIn events t;
+              eventsRead = events-read t d;
+              lines = reportOf ofs m logs n;
+              linesRead = counts .read;
+              rules = kept r (row2 (tableIn ps)) ruled k;
+            }
 
-            pub past-4-to-7 : (f : Fault) (x : Audited) → x ≡ audited (verdict (f .row) (f .line)) m n →
-                Judges ps events t ofs m logs n f → JudgedIn s trace report events ofs logs (record { audited = x; events = t })
+            pub past-4-to-7 : (f : Fault) (x : Audited) → x ≡ audited (verdict (f .row) (f .line)) m n → Judges ps events t ofs m logs n f →
+                Found s trace report events t ofs m logs n x
             past-4-to-7 f x w j =
                 let e = judged ps events t traced report ofs m logs n counts f x w j ∙ past-3 t d in
                 record {
                   meaning = e;
-                  fewEntries = omega (arith, ap (λ x. x .operations) w, counted-at-most (verdict (f .row) (f .line)), counts .fewEntries);
                   fewEvents = traced .events;
-                  ordered = λ v order o.
-                      let z : f .row ≡ 0 = sym (ap (λ x. x .verdict) w) ∙ v in
-                      let k : x .operations ≡ n = ap (λ x. x .operations) w ∙ ap (λ (t : Bool). cond t n 0) (eqb-yes z) in
-                      let l : x .requests ≡ m = ap (λ x. x .requests) w ∙ ap (λ (t : Bool). cond t m 0) (eqb-yes z) in
-                      ap (λ k. itemsIn events logs k order (k + t)) k
-                      ∙ ordered ps events t traced report ofs m logs n counts (no-row-9 ps events t traced report ofs m logs n counts f j z)
-                      order (rw (k, l) at o)
-                      ∙ sym (order-merged s trace report (eventsIn events t) (reportOf ofs m logs n) (sym (ap (λ x. x .verdict) e) ∙ v)
-                      (events-read t d) (counts .read));
+                  fewEntries = counts .fewEntries;
+                  order = λ v.
+                      let a : auditOf s trace report .verdict ≡ 0 = sym (ap (λ x. x .verdict) e) ∙ v in
+                      let z = no-row-9 ps events t traced report ofs m logs n counts f j (sym (ap (λ x. x .verdict) w) ∙ v) in
+                      record {
+                        all =
+                            order-length s trace report a readings
+                            ∙ (λ i. firsts-length (entryAt logs) n i + firsts-length (eventAt events) t i);
+                        placed = λ order o.
+                            ordered ps events t traced report ofs m logs n counts z order o
+                            ∙ sym (order-of-read s trace report a readings);
+                      };
                 }
-
--- a refusal has no order
-pub judged-refused : (s trace report events ofs logs : List ℕ) (r : Judged) (x : Audited) (row line : ℕ) → r ≡ noOrder x →
-    x ≡ refusal row line → row ≢ 0 → refusal row line ≡ auditOf s trace report → JudgedIn s trace report events ofs logs r
-judged-refused s trace report events ofs logs r x row line e d z v =
-    subst (JudgedIn s trace report events ofs logs) (sym (e ∙ ap noOrder d))
-    (record { meaning = v; fewEntries = omega arith; fewEvents = omega arith; ordered = λ w. absurd (z w) })
 
 -- both promises of the audit
 pub promised : (s trace report : List ℕ) (r : Audited) → r ≡ auditOf s trace report →

@@ -7,6 +7,7 @@ use mathlib.Core.Option.{none}
 use mathlib.Core.Path.{_≡_}
 use lib.Dec.{eqb, ltb}
 use lib.ListN.{length, getD}
+use Rattle.lines.specs.declared.writer.Put.the-variants.{Wrote}
 use Rattle.text.specs.Held.{eventAt, entryAt, reportOf}
 use Rattle.text.specs.Report.{Report, noLines, readReport}
 use Rattle.text.specs.Rows.{firsts}
@@ -27,12 +28,11 @@ use Rattle.machine.specs.Objects.{atStart}
 use Rattle.model.specs.ByRule.{itemOf}
 use Rattle.model.specs.PlainRun.{Item}
 use Rattle.replay.specs.Judges.{nodeAt, OrdersIn}
-use Rattle.verifier.specs.Faults.{audited, auditOf}
-use Rattle.verifier.specs.Order.{orderOf}
-use Rattle.verifier.specs.declared.audits.Judged.{Judged}
+use Rattle.verifier.specs.Faults.{audited}
 use Rattle.verifier.specs.declared.Audited.{Audited}
 use Rattle.verifier.specs.declared.audits.Checked.{Checked}
 use Rattle.verifier.specs.declared.audits.Checked.the-variants.{Refused, Counts}
+use Rattle.verifier.specs.declared.orders.Ordered.{Ordered}
 
 -- whether one of several passes a test
 abbrev pub any : {A : Type 0} → (A → Bool) → List A → Bool
@@ -137,14 +137,10 @@ BatchChecked k events report ofs logs (Counts m n) = BatchHeld k events report o
 abbrev pub itemsIn : (events logs : List ℕ) (n : ℕ) (order : List ℕ) (k : ℕ) → List Item
 itemsIn events logs n order k = map itemOf (firsts (λ i. nodeAt events logs n (getD order i 0)) k)
 
-abbrev pub noOrder : Audited → Judged
-noOrder a = record { audited = a; events = 0 }
+-- such items are the order of the batch in the arrays: as many as it has, and those at any places that order it
+pub record OrderIs (events : List ℕ) (t : ℕ) (ofs : List ℕ) (m : ℕ) (logs : List ℕ) (n : ℕ) (items : List Item) : Type 0 where
+  pub all : length items ≡ n + t
+  pub placed : (order : List ℕ) → OrdersIn events t ofs m logs n order → itemsIn events logs n order (n + t) ≡ items
 
--- what the audit finds; and where that is an acceptance, the batch stands in the arrays: places that order its items give the order
-pub record JudgedIn (programs trace report events ofs logs : List ℕ) (r : Judged) : Type 0 where
-  pub meaning : r .audited ≡ auditOf programs trace report
-  pub fewEntries : r .audited .operations ≤ 1024
-  pub fewEvents : r .events ≤ 128
-  pub ordered : r .audited .verdict ≡ 0 → (order : List ℕ) →
-      OrdersIn events (r .events) ofs (r .audited .requests) logs (r .audited .operations) order →
-      itemsIn events logs (r .audited .operations) order (r .audited .operations + r .events) ≡ orderOf programs trace report
+abbrev pub noOrder : Audited → Ordered
+noOrder a = record { audited = a; order = Wrote 0 }

@@ -1,11 +1,14 @@
 // The audit of three texts: one row after the other, up to the first fault. A struct cannot be lent, and a call that takes one copies it,
-// so the program table stays with `audit_into`, and only the rules and the replay get it.
+// so the program table stays with `audit_order`, and only the rules and the replay get it.
 use crate::Audited;
+use crate::orders::Ordered;
+use crate::orders::put_numbers;
 use crate::report_rows::pack_claims;
 use crate::report_rows::row_6;
 use crate::report_rows::row_7;
 use crate::trace_rows::row_4;
 use crate::trace_rows::row_4_open;
+use lines::Put;
 use machine::Ruling;
 use machine::check_rules;
 use replay::Fault;
@@ -19,10 +22,13 @@ ghost use mathlib.Core.Path.{_≡_};
 ghost use mathlib.Core.Logic.{_↔_};
 ghost use Prim.Native.Nat.{_≤_};
 ghost use lib.ListN.{length};
+ghost use Rattle.lines.specs.Put.{PutIs};
 ghost use Rattle.model.specs.Checks.{verdict};
 ghost use Rattle.verifier.specs.Accepts.{Accepts};
 ghost use Rattle.verifier.specs.Faults.{audited, auditOf};
-ghost use Rattle.verifier.specs.Steps.{refusal, eventsIn, ReportChecked, BatchChecked, noOrder, JudgedIn};
+ghost use Rattle.verifier.specs.Order.{orderOf, orderNumbers};
+ghost use Rattle.verifier.specs.OrderRead.{OrderRead};
+ghost use Rattle.verifier.specs.Steps.{refusal, eventsIn, ReportChecked, BatchChecked, noOrder};
 
 // A refusal, whose counts are 0.
 fn refused(verdict: u64, line: usize) -> Audited
@@ -125,30 +131,23 @@ fn check_batch(
     }
 }
 
-// What the audit finds, and how many events an accepted batch has.
-pub struct Judged {
-    pub audited: Audited,
-    pub events: usize,
-}
-
-fn no_order(audited: Audited) -> Judged
+fn no_order(audited: Audited) -> Ordered
     ensures { λ r. ⌜ r ≡ noOrder audited ⌝ }
 {
-    Judged { audited, events: 0 }
+    Ordered {
+        audited,
+        order: Put::Wrote(0),
+    }
 }
 
-// The audit of three texts. The batch goes into the arrays.
-pub(crate) fn audit_into(
-    programs: &[u8],
-    trace: &[u8],
-    report: &[u8],
-    events: &mut [u64; 640],
-    ofs: &mut [u64; 192],
-    logs: &mut [u64; 6144],
-) -> Judged
-    requires { ⌜ (length (now events) ≡ 640) × (length (now ofs) ≡ 192) × (length (now logs) ≡ 6144) ⌝ }
-    ensures { λ r. ⌜ JudgedIn (now (programs .entry)) (now (trace .entry)) (now (report .entry))
-        (now (events .exit)) (now (ofs .exit)) (now (logs .exit)) r ⌝ }
+// The audit of three texts, and the order of an accepted batch to the front of out, or nothing where out is too short. A refused batch has
+// no order. An array is made when it is needed, so that a batch which is refused early is refused quickly.
+pub fn audit_order(programs: &[u8], trace: &[u8], report: &[u8], out: &mut [u64]) -> Ordered
+    ensures meaning { λ r. ⌜ r .audited ≡ auditOf (now (programs .entry)) (now (trace .entry)) (now (report .entry)) ⌝ }
+    ensures order { λ r. ⌜ PutIs (orderNumbers 1 (orderOf (now (programs .entry)) (now (trace .entry)) (now (report .entry))))
+        (now (out .entry)) (now (out .exit)) (r .order) ⌝ }
+    ensures read { λ r. ⌜ (r .audited .verdict ≡ 0 → OrderRead (now (programs .entry)) (now (trace .entry)) (now (report .entry))
+        (orderOf (now (programs .entry)) (now (trace .entry)) (now (report .entry)))) ⌝ }
 {
     let ps = read_programs(programs);
     if !ps.ok {
@@ -160,32 +159,38 @@ pub(crate) fn audit_into(
         }
         Ruling::Kept => {}
     }
-    match read_trace(trace, events) {
+    let mut events = [0u64; 640];
+    match read_trace(trace, &mut events) {
         Lines::Unreadable(line) => {
             return no_order(refused(3, line));
         }
         Lines::Readable(t) => {
-            match check_batch(ps.n, events, t, report, ofs, logs) {
+            let mut ofs = [0u64; 192];
+            let mut logs = [0u64; 6144];
+            match check_batch(ps.n, &events, t, report, &mut ofs, &mut logs) {
                 Checked::Refused(row, line) => {
                     return no_order(refused(row, line));
                 }
                 Checked::Counts(m, n) => {
-                    let audited = result(judge(ps, events, t, ofs, m, logs, n), m, n);
-                    return Judged { audited, events: t };
+                    let audited = result(judge(ps, &events, t, &ofs, m, &logs, n), m, n);
+                    if audited.verdict != 0 {
+                        return no_order(audited);
+                    }
+                    let order = put_numbers(&events, t, &ofs, m, &logs, n, out);
+                    return Ordered { audited, order };
                 }
             }
         }
     }
 }
 
-// The verdict on three texts: the first fault, or none. Verdict 0 says that an order exists which demand 3 allows.
+// The verdict on three texts: the first fault, or none. Verdict 0 says that an order exists which demand 3 allows. It lends no room for the
+// order, so that none is made.
 pub fn audit(programs: &[u8], trace: &[u8], report: &[u8]) -> Audited
     ensures meaning { λ r. ⌜ r ≡ auditOf (now (programs .entry)) (now (trace .entry)) (now (report .entry)) ⌝ }
     ensures exactly { λ r. ⌜ (r .verdict ≡ 0) ↔ Accepts (now (programs .entry)) (now (trace .entry)) (now (report .entry)) ⌝ }
 {
-    let mut events = [0u64; 640];
-    let mut ofs = [0u64; 192];
-    let mut logs = [0u64; 6144];
-    let j = audit_into(programs, trace, report, &mut events, &mut ofs, &mut logs);
-    j.audited
+    let mut none = [0u64; 0];
+    let r = audit_order(programs, trace, report, &mut none);
+    r.audited
 }

@@ -6,8 +6,8 @@ mod report_rows;
 mod trace_rows;
 
 pub use audits::audit;
+pub use audits::audit_order;
 pub use orders::Ordered;
-pub use orders::audit_order;
 pub use printing::audit_text;
 
 // What the audit finds: the number of the verdict with its line, and on acceptance how many `request` and how many `log` lines there are.

@@ -1,6 +1,5 @@
 // The order of an accepted batch in numbers, two for each item.
 use crate::Audited;
-use crate::audits::audit_into;
 use lines::Put;
 use replay::order_items;
 use text::entry_at;
@@ -9,10 +8,9 @@ ghost use mathlib.Core.List.{List};
 ghost use Prim.Native.Nat.{ℕ, _+_, _*_, _≤_, _<_};
 ghost use lib.ListN.{length, set};
 ghost use Rattle.lines.specs.Put.{front, PutIs};
-ghost use Rattle.verifier.specs.Faults.{auditOf};
-ghost use Rattle.verifier.specs.Order.{orderOf, orderNumbers};
-ghost use Rattle.verifier.specs.OrderRead.{OrderRead};
-ghost use Rattle.verifier.specs.Steps.{itemsIn};
+ghost use Rattle.model.specs.PlainRun.{Item};
+ghost use Rattle.verifier.specs.Order.{orderNumbers};
+ghost use Rattle.verifier.specs.Steps.{itemsIn, OrderIs};
 
 // What the audit finds, and what was written of the order: how many numbers, two for each item; or there was no room for them.
 pub struct Ordered {
@@ -58,40 +56,30 @@ fn fill_items(order: &[u16; 1152], k: usize, logs: &[u64; 6144], n: usize, out: 
     }
 }
 
-// The audit of three texts, and the order of an accepted batch to the front of out, or nothing where out is too short. A refused batch has
-// no order.
-pub fn audit_order(programs: &[u8], trace: &[u8], report: &[u8], out: &mut [u64]) -> Ordered
-    ensures meaning { λ r. ⌜ r .audited ≡ auditOf (now (programs .entry)) (now (trace .entry)) (now (report .entry)) ⌝ }
-    ensures order { λ r. ⌜ PutIs (orderNumbers 1 (orderOf (now (programs .entry)) (now (trace .entry)) (now (report .entry))))
-        (now (out .entry)) (now (out .exit)) (r .order) ⌝ }
-    ensures read { λ r. ⌜ (r .audited .verdict ≡ 0 → OrderRead (now (programs .entry)) (now (trace .entry)) (now (report .entry))
-        (orderOf (now (programs .entry)) (now (trace .entry)) (now (report .entry)))) ⌝ }
+// The order of an accepted batch in numbers to the front of out, or nothing where out is too short. Then none is made, nor one of no items,
+// so that an audit which lends no room spends nothing on it.
+pub(crate) fn put_numbers(
+    events: &[u64; 640],
+    t: usize,
+    ofs: &[u64; 192],
+    m: usize,
+    logs: &[u64; 6144],
+    n: usize,
+    out: &mut [u64],
+) -> Put
+    requires { ⌜ (t ≤ 128) × (n ≤ 1024) ⌝ }
+    ensures { λ r. ⌜ ((items : List Item) → OrderIs (now (events .entry)) t (now (ofs .entry)) m (now (logs .entry)) n items →
+        PutIs (orderNumbers 1 items) (now (out .entry)) (now (out .exit)) r) ⌝ }
 {
-    let mut events = [0u64; 640];
-    let mut ofs = [0u64; 192];
-    let mut logs = [0u64; 6144];
-    let j = audit_into(programs, trace, report, &mut events, &mut ofs, &mut logs);
-    let audited = j.audited;
-    if audited.verdict != 0 {
-        return Ordered {
-            audited,
-            order: Put::Wrote(0),
-        };
+    let items = n + t;
+    if items == 0 {
+        return Put::Wrote(0);
     }
-    let m = audited.requests as usize;
-    let n = audited.operations as usize;
-    let mut order = [0u16; 1152];
-    order_items(&events, j.events, &ofs, m, &logs, n, &mut order);
-    let items = n + j.events;
     if out.len() < 2 * items {
-        return Ordered {
-            audited,
-            order: Put::Short,
-        };
+        return Put::Short;
     }
-    fill_items(&order, items, &logs, n, out);
-    Ordered {
-        audited,
-        order: Put::Wrote(2 * items),
-    }
+    let mut order = [0u16; 1152];
+    order_items(events, t, ofs, m, logs, n, &mut order);
+    fill_items(&order, items, logs, n, out);
+    Put::Wrote(2 * items)
 }

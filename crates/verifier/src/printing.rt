@@ -1,6 +1,6 @@
 // The audit as the lines that the program prints.
 use crate::Audited;
-use crate::orders::audit_order;
+use crate::audits::audit_order;
 use lines::Put;
 use lines::number_width;
 use lines::put_number_line;

@@ -9,10 +9,10 @@ use Rattle.lines.proofs.numbers.digits_at.Statement.{statement}
 use Rattle.lines.proofs.numbers.digits_at.Tie as tie
 
 abbrev Inv-loop : tie.InvT-loop
-Inv-loop s at v₀ i₀ v i = (i ≤ length s) × (spelling 0 s at ≡ spelling v s i)
+Inv-loop s at first v₀ i₀ v i = (i ≤ length s) × (spelling first s at ≡ spelling v s i)
 
 abbrev μ-loop : tie.MeasureT-loop
-μ-loop s at v₀ i₀ v i = length s - i
+μ-loop s at first v₀ i₀ v i = length s - i
 
 loop-again : tie.Need-loop-again Inv-loop μ-loop
 loop-again c =

@@ -1,6 +1,6 @@
 -- `lines::numbers::number_at` meets its contract.
 use mathlib.Core.Path.{sym, _∙_}
-use Rattle.lines.proofs.Spelling.{spelled-out, spelled-stop, spelled-digits, spelled-zero-out, spelled-zero-stop, spelled-lead}
+use Rattle.lines.proofs.Spelling.{spelled-out, spelled-none, spelled-digits, spelled-zero-out, spelled-zero-stop, spelled-lead}
 use borrow.Author.Needs.{needs}
 use Rattle.lines.proofs.numbers.number_at.Statement.{statement}
 use Rattle.lines.proofs.numbers.number_at.Tie as tie
@@ -9,29 +9,30 @@ returns : tie.Need-returns
 returns c = spelled-out _ _ (search needs)
 
 returns-2 : tie.Need-returns-2
-returns-2 c = spelled-stop _ _ (search needs) (sym (c .before .ends .ensures) ∙ c .if2 .taken)
+returns-2 c = spelled-none _ _ (search needs) (c .before .digit .ensures .1 (search needs))
 
 returns-3 : tie.Need-returns-3
 returns-3 c =
-    c .digits-at .ensures ∙ spelled-digits _ _ (search needs)
-    (sym (c .before .before .before .ends .ensures) ∙ c .before .before .if2 .left) (c .before .if3 .taken)
+    let d = c .before .before .before .digit in
+    c .digits-at .ensures
+    ∙ spelled-digits _ _ (search needs) (d .result) (d .ensures .0 (search needs)) (search needs) (c .before .if3 .taken)
 
 returns-4 : tie.Need-returns-4
 returns-4 c =
-    spelled-zero-out _ _ (search needs) (sym (c .before .before .before .ends .ensures) ∙ c .before .before .if2 .left)
-    (c .before .if3 .left) (search needs)
+    let d = c .before .before .before .digit in
+    spelled-zero-out _ _ (search needs) (d .result) (d .ensures .0 (search needs)) (search needs) (c .before .if3 .left) (search needs)
 
 returns-5 : tie.Need-returns-5
 returns-5 c =
-    spelled-zero-stop _ _ (search needs)
-    (sym (c .before .before .before .before .before .before .ends .ensures) ∙ c .before .before .before .before .before .if2 .left)
-    (c .before .before .before .before .if3 .left) (search needs) (sym (c .before .ends2 .ensures) ∙ c .if5 .taken)
+    let d = c .before .before .before .before .before .before .digit in
+    spelled-zero-stop _ _ (search needs) (d .result) (d .ensures .0 (search needs)) (search needs)
+    (c .before .before .before .before .if3 .left) (search needs) (sym (c .before .ends .ensures) ∙ c .if5 .taken)
 
 returns-6 : tie.Need-returns-6
 returns-6 c =
-    spelled-lead _ _ (search needs)
-    (sym (c .before .before .before .before .before .before .ends .ensures) ∙ c .before .before .before .before .before .if2 .left)
-    (c .before .before .before .before .if3 .left) (search needs) (sym (c .before .ends2 .ensures) ∙ c .if5 .left)
+    let d = c .before .before .before .before .before .before .digit in
+    spelled-lead _ _ (search needs) (d .result) (d .ensures .0 (search needs)) (search needs)
+    (c .before .before .before .before .if3 .left) (search needs) (sym (c .before .ends .ensures) ∙ c .if5 .left)
 
 pub number-at-spec : {M : Type 1} → statement M
 number-at-spec =
@@ -41,9 +42,9 @@ number-at-spec =
     (λ c. search needs)
     (λ c κs. search needs)
     returns-2
+    (λ c. search needs)
     (λ c κs. search needs)
     returns-3
-    (λ c. search needs)
     returns-4
     (λ c. search needs)
     (λ c κs. search needs)

@@ -5,7 +5,7 @@ use Rattle.verifier.proofs.audits.audit.Statement.{statement}
 use Rattle.verifier.proofs.audits.audit.Tie as tie
 
 returns : tie.Need-returns
-returns c = promised _ _ _ _ (c .before .audit-into .ensures .meaning)
+returns c = promised _ _ _ _ (c .before .before .audit-order .ensures .0)
 
 pub audit-spec : {M : Type 1} → statement M
-audit-spec = tie.close (tie.spec (λ c κs. search needs) returns)
+audit-spec = tie.close (tie.spec (λ c. search needs) (λ c κs. search needs) returns)
