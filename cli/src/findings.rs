@@ -7,7 +7,7 @@ use crate::outcome::{count, NotRun, Status};
 use crate::proved::{self, Proved};
 use crate::shown;
 use crate::texts::{Text, Texts};
-use crate::verdicts::{self, Audited};
+use crate::verdicts::{self, Audited, Bill};
 use std::ffi::OsString;
 
 /// What became of a batch. Only the first two are verdicts.
@@ -151,6 +151,7 @@ impl Finding {
     pub fn json(&self) -> String {
         let mut object = Object::new();
         let audited = self.audited.as_ref();
+        let bill = audited.and_then(|a| a.bill);
         let bytes = self.bytes.as_deref();
         object.add("batch", json::name(&self.batch));
         object.add("state", json::string(self.state.word()));
@@ -163,6 +164,8 @@ impl Finding {
         object.add("bytes", json::optional(bytes.map(json::bytes)));
         object.add("requests", json::number(audited.map(|a| a.requests)));
         object.add("operations", json::number(audited.map(|a| a.operations)));
+        object.add("blocks", json::number(bill.map(|bill| bill.blocks)));
+        object.add("rest", json::number(bill.map(|bill| bill.rest)));
         object.add("order", json::optional(self.order.as_deref().map(listed)));
         object.add("sentence", json::string(&self.sentence));
         object.add("version", json::string(&self.program.version));
@@ -185,7 +188,10 @@ fn sentence(audited: &Audited, texts: &Texts) -> String {
     }
     let requests = count(audited.requests, "request");
     let operations = count(audited.operations, "operation");
-    format!("accepted: {requests}, {operations}{}", missing(texts))
+    let bill = audited.bill.map_or(String::new(), |Bill { blocks, rest }| {
+        format!(" ({}, rest {rest})", count(blocks, "block"))
+    });
+    format!("accepted: {requests}, {operations}{bill}{}", missing(texts))
 }
 
 /// A refusal in one sentence: the verdict, its cause or else its rule, and the line that it names.

@@ -33,19 +33,21 @@ Standard output: what the proved function makes, byte for byte that of the prove
   line=N         the line that the verdict names, 0 where it names none
   requests=N     how many requests and operations the batch has; 0 where it is refused
   operations=N
+  blocks=N       the whole hundreds of operations, by which they are charged; 0 where it is refused
+  rest=N         the operations left over, 0 to 99, for the next bill; 0 where it is refused
 and behind them, only where it is accepted, an order in which it could have gone, one line for each line of the trace
 and each operation ('teaselshears order DIR' tells it in words):
   event=N        line N of the trace
   op=RID,NUM     operation NUM of request RID
 Of what may come next operations go before lines of the trace, and of several operations the one whose log line stands
 first in the report.
-Standard error: one sentence: accepted, or the verdict with its cause, the text and the line with its bytes (what is
-not printable as \\ and three octal digits).
+Standard error: one sentence: accepted with these counts, or the verdict with its cause, the text and the line with its
+bytes (what is not printable as \\ and three octal digits).
 
       --json              one JSON object in place of both: batch, state, verdict, line, text, bytes, requests,
-                          operations, order, sentence, version, library, kit; null where there is none. A byte of
-                          'bytes' is the character of its number; 'order' is a list of the order's lines; a name that
-                          is not UTF-8 is a list of its bytes
+                          operations, blocks, rest, order, sentence, version, library, kit; null where there is none.
+                          A byte of 'bytes' is the character of its number; 'order' is a list of the order's lines; a
+                          name that is not UTF-8 is a list of its bytes
       --missing-as-empty  a missing file is an empty text; without it such a batch is not run. A folder with none
                           of the three files is never run
   -                       in place of DIR: takes folder names from standard input, one a line, and prints an object
@@ -116,18 +118,22 @@ name that begins with a dot, then rename it. The name of a batch is used once.
 
 RESULTS: new, empty, or made by this command; not in SPOOL, nor SPOOL in it.
   batches/NAME/programs.txt, trace.txt, report.txt   the texts that were audited
-  batches/NAME/output                                what 'teaselshears audit' prints for them; without the order
-                                                     where a version that had none kept it
+  batches/NAME/output                                what 'teaselshears audit' prints for them, or what it printed
+                                                     in the version that kept it
   batches/NAME/about                                 time (UTC), version, library, kit and sentence
   table.csv                                          a heading, and a row for each batch of the spool and each kept
                                                      result: batch, state, verdict, line, requests, operations,
-                                                     time, sentence. CSV as RFC 4180 has it, in UTF-8
+                                                     blocks, rest, time, sentence. CSV as RFC 4180 has it, in UTF-8
 A result appears whole, by one rename. One run at a time works on a RESULTS; another waits three seconds and gives up.
 
 A state is accepted or refused; changed, where the texts in the spool are not those that were audited; failed, where
 the batch or its kept result could not be read, or the result not kept: it is tried again by the next run; or waiting,
 where the run was stopped before it. A row has a verdict only where it is accepted or refused. To audit a changed batch
 again, remove batches/NAME.
+
+What an earlier version kept stays as it was. It has no blocks and rest where that version printed none: they are empty
+in the table and null in JSON; and no order where that version had none either. To have them, remove batches/NAME and
+run again.
 
 Standard error: on a terminal a line of progress, otherwise a line for each batch that is audited; a line for each
 that is refused, changed or failed, in a later run too; and the counts.

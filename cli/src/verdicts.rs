@@ -36,11 +36,42 @@ pub struct Audited {
     pub line: u64,
     pub requests: u64,
     pub operations: u64,
+    /// None of an output that was kept before there was a bill.
+    pub bill: Option<Bill>,
+}
+
+/// Operations by the hundred, as they are charged: whole hundreds, and what is left over.
+#[derive(Clone, Copy, Debug, PartialEq, Eq)]
+pub struct Bill {
+    pub blocks: u64,
+    pub rest: u64,
+}
+
+impl Bill {
+    fn of(operations: u64) -> Bill {
+        Bill {
+            blocks: operations / 100,
+            rest: operations % 100,
+        }
+    }
 }
 
 impl Audited {
-    /// Reads the verdict lines in front of what an audit printed, and gives what stands behind them with it.
+    /// Reads the verdict lines in front of what an audit printed, and gives what stands behind them with it. The bill is read and
+    /// not made: one that does not add up is no bill.
     pub fn read(printed: &[u8]) -> Option<(Audited, &[u8])> {
+        let (audited, behind) = Audited::read_without_bill(printed)?;
+        let ([blocks, rest], behind) = numbers(behind, ["blocks=", "rest="])?;
+        let bill = Bill { blocks, rest };
+        let billed = Audited {
+            bill: Some(bill),
+            ..audited
+        };
+        (bill == Bill::of(audited.operations)).then_some((billed, behind))
+    }
+
+    /// The same of the four lines that were printed before there was a bill.
+    pub fn read_without_bill(printed: &[u8]) -> Option<(Audited, &[u8])> {
         let ([verdict, line, requests, operations], behind) =
             numbers(printed, ["verdict=", "line=", "requests=", "operations="])?;
         let audited = Audited {
@@ -48,8 +79,14 @@ impl Audited {
             line,
             requests,
             operations,
+            bill: None,
         };
-        (verdict != 0 || line == 0).then_some((audited, behind))
+        // An accepted batch names no line, and of a refused one nothing is counted.
+        let holds = match verdict {
+            0 => line == 0,
+            _ => requests == 0 && operations == 0,
+        };
+        holds.then_some((audited, behind))
     }
 }
 
@@ -191,36 +228,118 @@ before its first request and ended after its last response.",
 mod tests {
     use super::*;
 
+    const LINES: &str = "verdict=0\nline=0\nrequests=2\noperations=304\nblocks=3\nrest=4\n";
+
+    #[test]
+    fn verdict_lines_are_read_with_what_stands_behind_them() {
+        let printed = format!("{LINES}event=1\n");
+        let audited = Audited {
+            verdict: 0,
+            line: 0,
+            requests: 2,
+            operations: 304,
+            bill: Some(Bill { blocks: 3, rest: 4 }),
+        };
+        let read = Audited::read(printed.as_bytes());
+        assert_eq!(read, Some((audited, &b"event=1\n"[..])));
+    }
+
     #[test]
     fn verdict_lines_are_read_or_not_at_all() {
-        let printed = b"verdict=0\nline=0\nrequests=2\noperations=4\nevent=1\n";
-        let (read, behind) = Audited::read(printed).unwrap();
-        assert_eq!(
-            (read.verdict, read.line, read.requests, read.operations),
-            (0, 0, 2, 4)
-        );
-        assert_eq!(behind, b"event=1\n");
-        let wrong: [&[u8]; 11] = [
-            b"",
-            b"verdict=0\nline=0\nrequests=2\noperations=4",
-            b"verdict=0\nline=1\nrequests=2\noperations=4\n",
-            b"verdict=00\nline=0\nrequests=2\noperations=4\n",
-            b"verdict=+0\nline=0\nrequests=2\noperations=4\n",
-            b"verdict=\nline=0\nrequests=2\noperations=4\n",
-            b"verdict=-1\nline=0\nrequests=2\noperations=4\n",
-            b"verdict=0 \nline=0\nrequests=2\noperations=4\n",
-            b" verdict=0\nline=0\nrequests=2\noperations=4\n",
-            b"verdict=0\nrequests=2\noperations=4\n",
-            b"verdict=18446744073709551616\nline=0\nrequests=2\noperations=4\n",
-        ];
-        for printed in wrong {
-            assert_eq!(
-                Audited::read(printed),
-                None,
-                "{}",
-                String::from_utf8_lossy(printed)
-            );
+        for (lines, wrong) in [
+            (LINES, ""),
+            ("rest=4\n", "rest=4"),
+            ("rest=4\n", ""),
+            ("blocks=3\n", ""),
+            ("blocks=3\nrest=4\n", ""),
+            ("blocks=3\nrest=4\n", "rest=4\nblocks=3\n"),
+            ("blocks=3\nrest=4\n", "blocks=4\nrest=3\n"),
+            ("blocks=3\n", "blocks=03\n"),
+            ("blocks=3\n", "blocks=3 \n"),
+            ("rest=4\n", "rest=04\n"),
+            ("rest=4\n", "rest=+4\n"),
+            ("rest=4\n", "rest=\n"),
+            ("line=0\n", "line=1\n"),
+            ("line=0\n", ""),
+            ("verdict=0\n", "verdict=00\n"),
+            ("verdict=0\n", "verdict=+0\n"),
+            ("verdict=0\n", "verdict=\n"),
+            ("verdict=0\n", "verdict=-1\n"),
+            ("verdict=0\n", "verdict=0 \n"),
+            ("verdict=0\n", " verdict=0\n"),
+            ("verdict=0\n", "verdict=18446744073709551616\n"),
+        ] {
+            let printed = LINES.replace(lines, wrong);
+            assert_eq!(Audited::read(printed.as_bytes()), None, "{printed}");
         }
+    }
+
+    #[test]
+    fn a_bill_adds_up_or_is_not_read() {
+        let read = |operations: u64, blocks: u64, rest: u64| {
+            let front = format!("verdict=0\nline=0\nrequests=1\noperations={operations}\n");
+            let printed = format!("{front}blocks={blocks}\nrest={rest}\n");
+            Audited::read(printed.as_bytes()).map(|(audited, _)| audited.bill)
+        };
+        for (operations, blocks, rest) in [
+            (0, 0, 0),
+            (4, 0, 4),
+            (99, 0, 99),
+            (100, 1, 0),
+            (101, 1, 1),
+            (1_024, 10, 24),
+            (u64::MAX, 184_467_440_737_095_516, 15),
+        ] {
+            let bill = Some(Bill { blocks, rest });
+            assert_eq!(read(operations, blocks, rest), Some(bill));
+        }
+        for (operations, blocks, rest) in [
+            (0, 0, 1),
+            (0, 1, 0),
+            (4, 0, 3),
+            (4, 4, 0),
+            (100, 0, 100),
+            (104, 0, 104),
+            (200, 1, 100),
+            // A hundred times 2^62 is 0 modulo 2^64.
+            (4, 1 << 62, 4),
+            (u64::MAX, 0, u64::MAX),
+            (u64::MAX, u64::MAX, u64::MAX),
+            (u64::MAX, 184_467_440_737_095_517, 15),
+        ] {
+            let read = read(operations, blocks, rest);
+            assert_eq!(read, None, "{operations}, {blocks}, {rest}");
+        }
+    }
+
+    #[test]
+    fn a_refusal_counts_nothing() {
+        let read = |lines: &str| {
+            let printed = format!("verdict=9\nline=0\n{lines}");
+            Audited::read(printed.as_bytes()).map(|(audited, _)| audited.bill)
+        };
+        let bill = Bill { blocks: 0, rest: 0 };
+        assert_eq!(
+            read("requests=0\noperations=0\nblocks=0\nrest=0\n"),
+            Some(Some(bill))
+        );
+        for lines in [
+            "requests=0\noperations=4\nblocks=0\nrest=4\n",
+            "requests=2\noperations=0\nblocks=0\nrest=0\n",
+            "requests=0\noperations=0\nblocks=0\nrest=4\n",
+            "requests=0\noperations=0\nblocks=1\nrest=0\n",
+            "requests=0\noperations=0\n",
+        ] {
+            assert_eq!(read(lines), None, "{lines}");
+        }
+    }
+
+    #[test]
+    fn the_lines_from_before_there_was_a_bill() {
+        let printed = b"verdict=0\nline=0\nrequests=2\noperations=304\nevent=1\n";
+        let (read, behind) = Audited::read_without_bill(printed).unwrap();
+        assert_eq!((read.requests, read.operations), (2, 304));
+        assert_eq!((read.bill, behind), (None, &b"event=1\n"[..]));
     }
 
     #[test]

@@ -16,35 +16,60 @@ pub const AGAINST_PROVED: [Check; 7] = [
     orders_agree,
     printed_audits_agree,
     printed_records_agree,
-    what_is_too_short_is_left_alone,
+    host_numbers_agree,
     what_the_proved_host_writes_is_accepted,
 ];
 
+/// The result as numbers, with places to spare, with just enough and with every number of places too few; a
+/// caller that knows of neither blocks nor rest lends four.
 fn audits_agree(case: &Case) -> Option<String> {
-    let here = audit_of(&case.batch);
-    let proved = proved::audit(&case.batch);
-    (here != proved).then(|| format!("here {here:?}, proved {proved:?}"))
+    let result = result_of(audit_of(&case.batch));
+    let places = result.len();
+    [places + 2, places]
+        .into_iter()
+        .chain(0..places)
+        .find_map(|room| audits_differ(case, &result, room))
 }
 
-/// The order as numbers, with room enough, with just enough and with a number too little in one of the two.
+/// A result as its numbers.
+fn result_of(audited: Audited) -> [u64; proved::AUDIT_NUMBERS] {
+    [
+        audited.verdict,
+        audited.line as u64,
+        audited.requests as u64,
+        audited.operations as u64,
+        audited.blocks as u64,
+        audited.rest as u64,
+    ]
+}
+
+/// The result is written whole, or nothing where the room is too little.
+fn audits_differ(case: &Case, result: &[u64], room: usize) -> Option<String> {
+    let mut out = vec![UNTOUCHED; room + BEHIND];
+    let written = proved::audit_into(&case.batch, &mut out[..room]);
+    let result = if room < result.len() { &[] } else { result };
+    let agrees = written == result.len() && holds_numbers(&out, result);
+    (!agrees).then(|| {
+        format!("here {result:?}, proved {written} numbers in {out:?}, with {room} places of room")
+    })
+}
+
+/// The order as numbers, with room enough, with just enough and with too little in one of the two: a place too
+/// few, and as many as a caller lends that knows of neither blocks nor rest.
 fn orders_agree(case: &Case) -> Option<String> {
     let checked = checked_of(&case.batch);
     let accepted = checked.as_ref().ok();
     let items = accepted.map(order).unwrap_or_default().into_iter();
     let order: Vec<u64> = items.flat_map(numbers).collect();
-    let Audited {
-        verdict,
-        line,
-        requests,
-        operations,
-    } = audited(&checked);
-    let counted = [line, requests, operations, order.len()].map(|number| number as u64);
-    let result = [&[verdict][..], &counted].concat();
+    let result = result_of(audited(&checked));
+    let result = [&result[..], &[order.len() as u64]].concat();
     let (places, needed) = (result.len(), order.len());
     let rooms = [
-        (places + 1, needed + 2),
+        (places + 2, needed + 2),
         (places, needed),
         (places - 1, needed),
+        (places - 2, needed),
+        (places - 3, needed),
         (places, needed.saturating_sub(1)),
     ];
     rooms
@@ -67,9 +92,9 @@ fn orders_differ(
     order: &[u64],
     rooms: (usize, usize),
 ) -> Option<String> {
-    let mut out = vec![UNTOUCHED; rooms.0];
-    let mut items = vec![UNTOUCHED; rooms.1];
-    let written = proved::order_into(&case.batch, &mut out, &mut items);
+    let mut out = vec![UNTOUCHED; rooms.0 + BEHIND];
+    let mut items = vec![UNTOUCHED; rooms.1 + BEHIND];
+    let written = proved::order_into(&case.batch, &mut out[..rooms.0], &mut items[..rooms.1]);
     let enough = rooms.0 >= result.len() && rooms.1 >= order.len();
     let [result, order] = [result, order].map(|numbers| if enough { numbers } else { &[] });
     let difference = if written != result.len() || !holds_numbers(&out, result) {
@@ -87,6 +112,9 @@ fn orders_differ(
 
 /// What a place for a number holds before; no result and no item has it.
 const UNTOUCHED: u64 = u64::MAX;
+
+/// So many places lie behind those that are lent, so that a number written there is seen.
+const BEHIND: usize = 8;
 
 /// Whether these numbers stand at the front, and every place behind them is untouched.
 fn holds_numbers(places: &[u64], numbers: &[u64]) -> bool {
@@ -190,18 +218,35 @@ fn holds(buffer: &[u8], text: &[u8]) -> bool {
     buffer.starts_with(text) && buffer[text.len()..] == PATTERN[text.len()..buffer.len()]
 }
 
+/// The host's result as numbers, with places to spare and with too few.
+fn host_numbers_agree(case: &Case) -> Option<String> {
+    let places = proved::RECORD_NUMBERS;
+    [places + 2, case.schedule.len() % places]
+        .into_iter()
+        .find_map(|room| host_numbers_differ(case, room))
+}
+
 /// With too little room for the numbers of the result nothing is written anywhere.
-fn what_is_too_short_is_left_alone(case: &Case) -> Option<String> {
-    let before = [7; proved::NUMBERS];
-    let mut numbers = before;
-    let out = &mut numbers[..case.schedule.len() % proved::NUMBERS];
-    let [mut trace, mut report] = [TEXT_LIMIT; 2].map(|room| PATTERN[..room].to_vec());
-    let audited = proved::audit_into(&case.batch, out);
+fn host_numbers_differ(case: &Case, room: usize) -> Option<String> {
     let programs = &case.batch.programs;
-    let recorded = proved::record_into(programs, &case.schedule, &mut trace, &mut report, out);
-    let untouched = numbers == before && holds(&trace, b"") && holds(&report, b"");
-    (audited != 0 || recorded != 0 || !untouched)
-        .then(|| format!("{audited} and {recorded} numbers, untouched: {untouched}"))
+    let here = record(programs, &case.schedule, TEXT_LIMIT, TEXT_LIMIT);
+    let lengths = [&here.trace, &here.report].map(|text| text.len() as u64);
+    let result = [here.verdict, here.line as u64, lengths[0], lengths[1]];
+    let enough = room >= result.len();
+    let result = if enough { &result[..] } else { &[] };
+    let texts = [here.trace, here.report].map(|text| if enough { text } else { Vec::new() });
+    let mut out = vec![UNTOUCHED; room + BEHIND];
+    let [mut trace, mut report] = [TEXT_LIMIT; 2].map(|room| PATTERN[..room].to_vec());
+    let places = &mut out[..room];
+    let written = proved::record_into(programs, &case.schedule, &mut trace, &mut report, places);
+    let difference = if written != result.len() || !holds_numbers(&out, result) {
+        format!("here {result:?}, proved {written} numbers in {out:?}")
+    } else if !holds(&trace, &texts[0]) || !holds(&report, &texts[1]) {
+        "the buffer of trace or report differs".into()
+    } else {
+        return None;
+    };
+    Some(format!("{difference}, with {room} places of room"))
 }
 
 fn what_the_proved_host_writes_is_accepted(case: &Case) -> Option<String> {

@@ -32,6 +32,9 @@ pub struct Audited {
     pub line: usize,
     pub requests: usize,
     pub operations: usize,
+    /// The operations by the hundred: the whole hundreds, and what is left over.
+    pub blocks: usize,
+    pub rest: usize,
 }
 
 /// Verdict, line and counts of a batch.
@@ -42,19 +45,32 @@ pub fn audit(programs: &[u8], trace: &[u8], report: &[u8]) -> Audited {
 /// Verdict, line and counts of what was checked.
 pub fn audited(checked: &Result<Accepted, Fault>) -> Audited {
     match checked {
-        Ok(Accepted { batch, .. }) => Audited {
-            verdict: 0,
-            line: 0,
-            requests: batch.requests.len(),
-            operations: batch.report.log.len(),
-        },
+        Ok(Accepted { batch, .. }) => {
+            let operations = batch.report.log.len();
+            let (blocks, rest) = by_the_hundred(operations);
+            Audited {
+                verdict: 0,
+                line: 0,
+                requests: batch.requests.len(),
+                operations,
+                blocks,
+                rest,
+            }
+        }
         Err(Fault { verdict, line }) => Audited {
             verdict: *verdict,
             line: *line,
             requests: 0,
             operations: 0,
+            blocks: 0,
+            rest: 0,
         },
     }
+}
+
+/// Whole hundreds of operations, and what is left over.
+fn by_the_hundred(operations: usize) -> (usize, usize) {
+    (operations / 100, operations % 100)
 }
 
 /// An accepted batch, and what comes before what in it. The nodes are the events of the trace and, behind
@@ -362,6 +378,17 @@ mod tests {
                 expected,
                 "{name}"
             );
+        }
+    }
+
+    #[test]
+    fn blocks_are_whole_hundreds_and_the_rest_is_below_a_hundred() {
+        for operations in 0..=1_024 {
+            let (blocks, rest) = by_the_hundred(operations);
+            assert_eq!(100 * blocks + rest, operations);
+            assert!(rest < 100, "{rest} of {operations}");
+            let counted = (100..=operations).step_by(100).count();
+            assert_eq!(blocks, counted, "of {operations}");
         }
     }
 }

@@ -11,8 +11,9 @@ use crate::texts::{BatchTexts, TEXT_LIMIT};
 pub type Check = fn(&Case) -> Option<String>;
 
 /// The checks within this implementation.
-pub const ALONE: [Check; 5] = [
+pub const ALONE: [Check; 6] = [
     the_paper_agrees,
+    the_counts_are_those_of_the_texts,
     acceptance_means_an_order,
     the_order_worked_out_is_printed,
     the_order_is_right,
@@ -63,6 +64,44 @@ fn the_paper_agrees(case: &Case) -> Option<String> {
             (verdict, line)
         )
     })
+}
+
+/// An accepted batch has the counts of its texts; a refused one has none.
+fn the_counts_are_those_of_the_texts(case: &Case) -> Option<String> {
+    let audited = audit_of(&case.batch);
+    let expected = match audited {
+        Audited { verdict: 0, .. } => counted(&case.batch),
+        Audited { verdict, line, .. } => Audited {
+            verdict,
+            line,
+            requests: 0,
+            operations: 0,
+            blocks: 0,
+            rest: 0,
+        },
+    };
+    (audited != expected).then(|| format!("expected {expected:?}, and {audited:?}"))
+}
+
+/// The result of an accepted batch, counted in its texts: each hundredth operation makes a block full.
+fn counted(batch: &BatchTexts) -> Audited {
+    let operations = lines_with(&batch.report, b"log=");
+    let (mut blocks, mut rest) = (0, 0);
+    for _ in 0..operations {
+        rest += 1;
+        if rest == 100 {
+            blocks += 1;
+            rest = 0;
+        }
+    }
+    Audited {
+        verdict: 0,
+        line: 0,
+        requests: lines_with(&batch.trace, b"request="),
+        operations,
+        blocks,
+        rest,
+    }
 }
 
 fn acceptance_means_an_order(case: &Case) -> Option<String> {
@@ -118,12 +157,7 @@ pub fn not_accepted(
     written: &BatchTexts,
     audit: fn(&BatchTexts) -> Audited,
 ) -> Option<String> {
-    let expected = Audited {
-        verdict: 0,
-        line: 0,
-        requests: lines_with(&written.trace, b"request="),
-        operations: lines_with(&written.report, b"log="),
-    };
+    let expected = counted(written);
     let audited = audit(written);
     (verdict == 0 && audited != expected)
         .then(|| format!("the host wrote it, and {audited:?}, expected {expected:?}"))

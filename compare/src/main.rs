@@ -38,8 +38,8 @@ usage: compare [--alone] [--cases N] [--seed S] [--out DIR] [--vectors DIR]
 Runs N cases (10000 if not given): the worked ones, then half from a fixed seed and the rest from seed S
 (taken from the clock if not given, and printed). Each case is a batch, honest or damaged, and a schedule.
   --alone    only the checks within this implementation: acceptance against a search of all orders, the
-             order that is printed against its rule and a plain run, and what the host writes against the
-             audit
+             counts against the lines of the texts, the order that is printed against its rule and a plain
+             run, and what the host writes against the audit
   --out DIR  where a difference, reduced, is written (differences)
   --vectors DIR  also sees that the stored vectors of crate `vectors` are those that `vectors` writes
 The last line is 'N passed, M failed'; the exit status is 0 only where nothing failed.
@@ -145,6 +145,8 @@ fn checks(options: &Options) -> Result<Vec<Check>, String> {
 #[derive(Default)]
 struct Tally {
     verdicts: [usize; 13],
+    /// Accepted batches with a block of operations at least.
+    blocks: usize,
     schedules: [usize; 17],
     orders: usize,
     no_orders: usize,
@@ -153,7 +155,9 @@ struct Tally {
 
 impl Tally {
     fn count(&mut self, case: &Case) {
-        self.verdicts[checks::audit_of(&case.batch).verdict as usize] += 1;
+        let audited = checks::audit_of(&case.batch);
+        self.verdicts[audited.verdict as usize] += 1;
+        self.blocks += usize::from(audited.blocks > 0);
         self.schedules[checks::record_of(case).verdict as usize] += 1;
         match checks::search(&case.batch) {
             Some(Found::Order) => self.orders += 1,
@@ -165,6 +169,10 @@ impl Tally {
 
     fn print(&self) {
         println!("audit: {}", shares(&self.verdicts));
+        println!(
+            "accepted with a hundred operations or more: {}",
+            self.blocks
+        );
         println!("record: {}", shares(&self.schedules));
         println!(
             "search of all orders: {} with an order, {} with none, {} given up",

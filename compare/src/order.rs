@@ -83,8 +83,13 @@ pub fn verdict_lines(audited: Audited) -> String {
         line,
         requests,
         operations,
+        blocks,
+        rest,
     } = audited;
-    format!("verdict={verdict}\nline={line}\nrequests={requests}\noperations={operations}\n")
+    format!(
+        "verdict={verdict}\nline={line}\nrequests={requests}\noperations={operations}\n\
+         blocks={blocks}\nrest={rest}\n"
+    )
 }
 
 #[cfg(test)]
@@ -126,23 +131,34 @@ mod tests {
     }
 
     #[test]
-    fn case_c_prints_its_twelve_lines() {
-        let text = "verdict=0\nline=0\nrequests=2\noperations=4\n\
+    fn case_c_prints_its_fourteen_lines() {
+        let text = "verdict=0\nline=0\nrequests=2\noperations=4\nblocks=0\nrest=4\n\
                     event=1\nop=1,1\nevent=2\nop=2,1\nop=2,2\nop=1,2\nevent=3\nevent=4\n";
         assert_eq!(printed_of(&worked::case_c()), text);
     }
 
     #[test]
     fn empty_texts_have_no_line_in_their_order() {
-        let text = "verdict=0\nline=0\nrequests=0\noperations=0\n";
+        let text = "verdict=0\nline=0\nrequests=0\noperations=0\nblocks=0\nrest=0\n";
         assert_eq!(printed_of(&BatchTexts::default()), text);
     }
 
     #[test]
     fn a_refused_batch_prints_its_verdict_lines_alone() {
         let refused = worked::batch("do=1,2\n", "", "");
-        let text = "verdict=1\nline=1\nrequests=0\noperations=0\n";
+        let text = "verdict=1\nline=1\nrequests=0\noperations=0\nblocks=0\nrest=0\n";
         assert_eq!(printed_of(&refused), text);
+    }
+
+    #[test]
+    fn no_refused_batch_shows_a_count() {
+        let worked = worked::batches().into_iter();
+        for case in worked.filter(|case| case.expected.verdict != 0) {
+            let Audited { verdict, line, .. } = case.expected;
+            let counts = "requests=0\noperations=0\nblocks=0\nrest=0\n";
+            let text = format!("verdict={verdict}\nline={line}\n{counts}");
+            assert_eq!(printed_of(&case.batch), text, "{}", case.name);
+        }
     }
 
     #[test]

@@ -8,18 +8,21 @@ mod teaselshears;
 
 pub use teaselshears::{record as record_into, record_text};
 
-/// How many numbers a result has.
-pub const NUMBERS: usize = 4;
+/// How many numbers the audit's result has, and the host's.
+pub const AUDIT_NUMBERS: usize = 6;
+pub const RECORD_NUMBERS: usize = 4;
 
 pub fn audit(batch: &BatchTexts) -> Audited {
-    let mut out = [u64::MAX; NUMBERS];
-    assert_eq!(audit_into(batch, &mut out), NUMBERS);
-    let [verdict, line, requests, operations] = out;
+    let mut out = [u64::MAX; AUDIT_NUMBERS];
+    assert_eq!(audit_into(batch, &mut out), AUDIT_NUMBERS);
+    let [verdict, line, requests, operations, blocks, rest] = out;
     Audited {
         verdict,
         line: line as usize,
         requests: requests as usize,
         operations: operations as usize,
+        blocks: blocks as usize,
+        rest: rest as usize,
     }
 }
 
@@ -49,9 +52,9 @@ pub struct Recorded {
 }
 
 pub fn record(programs: &[u8], schedule: &[u8], trace: &mut [u8], report: &mut [u8]) -> Recorded {
-    let mut out = [u64::MAX; NUMBERS];
+    let mut out = [u64::MAX; RECORD_NUMBERS];
     let written = record_into(programs, schedule, trace, report, &mut out);
-    assert_eq!(written, NUMBERS);
+    assert_eq!(written, RECORD_NUMBERS);
     let [verdict, line, trace_length, report_length] = out;
     Recorded {
         verdict,

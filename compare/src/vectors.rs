@@ -4,8 +4,9 @@
 //! A file is one vector after the other. A vector is a header, `NAME=n,n,..` and a line feed, and then its
 //! texts, with nothing between them. A batch has three numbers, the lengths of its texts; a schedule has four,
 //! the lengths of programs and schedule and of the buffers that are lent for trace and report. What is printed
-//! is the name, `=` and the numbers of the result: of a batch the audit's, then length and sum of the text that
-//! the program `audit` prints; of a schedule the host's, then a sum over each buffer.
+//! is the name, `=` and the numbers of the result: of a batch the audit's first four, then length and sum of the
+//! text that the program `audit` prints, which has all of them; of a schedule the host's, then a sum over each
+//! buffer.
 
 use crate::cases::{self, Case};
 use crate::checks::{audit_of, printed_of, record_of};

@@ -1,6 +1,8 @@
 //! The batches and schedules that the scope paper works out, an example of every row of its table, and the
-//! limits, each with the result that the paper gives; and orders to read, worked out by hand.
+//! limits, each with the result that the paper gives; full hundreds of operations; and orders to read, worked
+//! out by hand.
 
+mod hundreds;
 mod limits;
 mod orders;
 mod schedules;
@@ -58,15 +60,20 @@ pub fn batches() -> Vec<Case> {
     cases.extend(readings());
     cases.extend(limits::limits());
     cases.extend(orders::orders());
+    cases.extend(hundreds::hundreds());
     cases
 }
 
-fn accepted(name: &'static str, batch: BatchTexts, requests: usize, operations: usize) -> Case {
+/// An accepted batch with its requests, operations, blocks and rest, each worked out by hand.
+fn accepted(name: &'static str, batch: BatchTexts, counts: [usize; 4]) -> Case {
+    let [requests, operations, blocks, rest] = counts;
     let expected = Audited {
         verdict: 0,
         line: 0,
         requests,
         operations,
+        blocks,
+        rest,
     };
     Case {
         name,
@@ -82,6 +89,8 @@ fn refused(name: &'static str, batch: BatchTexts, verdict: u64, line: usize) -> 
         line,
         requests: 0,
         operations: 0,
+        blocks: 0,
+        rest: 0,
     };
     Case {
         name,
@@ -119,11 +128,11 @@ fn worked() -> Vec<Case> {
     );
     let looped = batch(LOOP, "request=1,0,0,0\nresponse=1,1,0\n", "of=1,0,0\n");
     vec![
-        accepted("case C", case_c(), 2, 4).in_order(ORDER_OF_C),
+        accepted("case C", case_c(), [2, 4, 0, 4]).in_order(ORDER_OF_C),
         refused("case B", b, 9, 0),
         refused("case A", a, 9, 0),
-        accepted("all empty", BatchTexts::default(), 0, 0).in_order(""),
-        accepted("the loop", looped, 1, 0).in_order("event=1\nevent=2\n"),
+        accepted("all empty", BatchTexts::default(), [0; 4]).in_order(""),
+        accepted("the loop", looped, [1, 0, 0, 0]).in_order("event=1\nevent=2\n"),
     ]
 }
 

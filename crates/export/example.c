@@ -14,21 +14,23 @@ static uint64_t order[TEASELSHEARS_ORDER];
 #define TEXT(s) (const uint8_t *)s, strlen(s)
 
 int main(void) {
-    uint64_t host[4], audit[5];
+    uint64_t host[4], audit[TEASELSHEARS_ORDER_NUMBERS];
     size_t written, i, operations = 0;
-    /* The numbers mean something only where four were written. */
+    /* The numbers mean something only where all of them were written. */
     if (teaselshears_record(TEXT(programs), TEXT(schedule), trace, sizeof trace, report, sizeof report, host, 4) != 4 ||
         host[0] != TEASELSHEARS_ACCEPTED)
         return 1;
-    if (teaselshears_audit(TEXT(programs), trace, (size_t)host[2], report, (size_t)host[3], audit, 4) != 4)
+    if (teaselshears_audit(TEXT(programs), trace, (size_t)host[2], report, (size_t)host[3], audit, TEASELSHEARS_AUDIT_NUMBERS) !=
+        TEASELSHEARS_AUDIT_NUMBERS)
         return 1;
-    /* The same four, and the order behind them. */
-    if (teaselshears_order(TEXT(programs), trace, (size_t)host[2], report, (size_t)host[3], audit, 5, order, TEASELSHEARS_ORDER) != 5)
+    /* The same six, and the order behind them. */
+    if (teaselshears_order(TEXT(programs), trace, (size_t)host[2], report, (size_t)host[3], audit, TEASELSHEARS_ORDER_NUMBERS, order,
+                           TEASELSHEARS_ORDER) != TEASELSHEARS_ORDER_NUMBERS)
         return 1;
-    for (i = 0; i < audit[4]; i += 2)
+    for (i = 0; i < audit[6]; i += 2)
         if (order[i + 1] != 0)
             operations++;
     written = teaselshears_audit_text(TEXT(programs), trace, (size_t)host[2], report, (size_t)host[3], printed, sizeof printed);
     fwrite(printed, 1, written, stdout);
-    return written > 0 && audit[0] == TEASELSHEARS_ACCEPTED && operations == audit[3] ? 0 : 1;
+    return written > 0 && audit[0] == TEASELSHEARS_ACCEPTED && operations == audit[3] && operations == 100 * audit[4] + audit[5] ? 0 : 1;
 }

@@ -6,11 +6,12 @@ mod teaselshears;
 
 fn main() {
     let [programs, trace, report] = [b"", b"", b""];
-    let mut out = [u64::MAX; 4];
+    let mut out = [u64::MAX; 6];
     let written = teaselshears::audit(programs, trace, report, &mut out);
-    // The numbers mean something only where four were written.
-    assert_eq!(written, 4);
-    let [verdict, line, requests, operations] = out;
-    println!("verdict={verdict}\nline={line}\nrequests={requests}\noperations={operations}");
+    // The numbers mean something only where all of them were written.
+    assert_eq!(written, out.len());
+    let [verdict, line, requests, operations, blocks, rest] = out;
+    println!("verdict={verdict}\nline={line}\nrequests={requests}");
+    println!("operations={operations}\nblocks={blocks}\nrest={rest}");
     std::process::exit(if verdict == 0 { 0 } else { 1 });
 }

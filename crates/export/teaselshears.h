@@ -44,23 +44,32 @@ enum teaselshears_verdict {
 enum { TEASELSHEARS_TEXT = 65535 };
 
 /* The most numbers that an order has, and the most bytes that teaselshears_audit_text writes. */
-enum { TEASELSHEARS_ORDER = 2304, TEASELSHEARS_PRINTED = 14709 };
+enum { TEASELSHEARS_ORDER = 2304, TEASELSHEARS_PRINTED = 14763 };
 
-/* The verdict on three texts. Verdict, line, requests and operations are written to out[0] to out[3], and 4 is returned;
-   with out_length below 4 nothing is written, and 0 is returned. So out[0] means nothing unless 4 was returned: an out
-   that was cleared to 0 and is too short looks accepted to whoever does not look at the result. */
+/* How many numbers a verdict has, and how many are written with an order. */
+enum { TEASELSHEARS_AUDIT_NUMBERS = 6, TEASELSHEARS_ORDER_NUMBERS = 7 };
+
+/* The verdict on three texts. Verdict, line, requests, operations, blocks and rest are written to out[0] to out[5], and 6 is
+   returned; with out_length below 6 nothing is written, and 0 is returned. So out[0] means nothing unless 6 was returned: an
+   out that was cleared to 0 and is too short looks accepted to whoever does not look at the result. Blocks are the whole
+   hundreds of operations, by which they are charged, and rest is what is left over, 0 to 99: 100 * out[4] + out[5] is
+   out[3]. All four counts are 0 on a refusal.
+
+   Before there were blocks and rest, four numbers were written and 4 was returned. A caller that was compiled for four gets 0
+   for an out of four, and 6 for a longer one: neither is the 4 that it has to look for. */
 size_t teaselshears_audit(const uint8_t *programs, size_t programs_length,
                           const uint8_t *trace, size_t trace_length,
                           const uint8_t *report, size_t report_length,
                           uint64_t *out, size_t out_length);
 
 /* The verdict on three texts, with an order in which an accepted batch could have gone: every trace line and every operation
-   once, in an order whose plain run gives every response, count and log. Verdict, line, requests and operations are written to
-   out[0] to out[3], to out[4] how many numbers the order has, and to the front of order these numbers, two for each item: the
-   line of a trace event and 0, or the rid of an operation and its number there, which is never 0. Of the items whose forerunners
-   all stand before it, an operation goes before an event, and of several operations the one with the smallest report line number
-   is next. A refused batch has no order: out[4] is 0. Then 5 is returned; with out_length below 5, or order_length too short
-   for the order, which TEASELSHEARS_ORDER never is, nothing is written anywhere, and 0 is returned: out[0] means nothing then. */
+   once, in an order whose plain run gives every response, count and log. The numbers of teaselshears_audit are written to out[0]
+   to out[5], to out[6] how many numbers the order has, and to the front of order these numbers, two for each item: the line of a
+   trace event and 0, or the rid of an operation and its number there, which is never 0. Of the items whose forerunners all stand
+   before it, an operation goes before an event, and of several operations the one with the smallest report line number is next. A
+   refused batch has no order: out[6] is 0. Then 7 is returned; with out_length below 7, or order_length too short for the order,
+   which TEASELSHEARS_ORDER never is, nothing is written anywhere, and 0 is returned: out[0] means nothing then. A caller that was
+   compiled for the five numbers of earlier versions gets 0 or 7, and never 5. */
 size_t teaselshears_order(const uint8_t *programs, size_t programs_length,
                           const uint8_t *trace, size_t trace_length,
                           const uint8_t *report, size_t report_length,

@@ -63,14 +63,14 @@ extern "C" {
 // SAFETY, of all five: each address comes with the length of the slice that it is the start of; the slices live until the call
 // returns, and those that are written to are lent to it alone.
 
-/// Verdict, line, requests and operations to the front of `out`: 4, or 0 where `out` is too short and nothing is written.
+/// Verdict, line, requests, operations, blocks and rest to the front of `out`: 6, or 0 where `out` is too short and nothing is written.
 pub fn audit(programs: &[u8], trace: &[u8], report: &[u8], out: &mut [u64]) -> usize {
     let [(p, pn), (t, tn), (r, rn)] = [programs, trace, report].map(|s| (s.as_ptr(), s.len()));
     unsafe { teaselshears_audit(p, pn, t, tn, r, rn, out.as_mut_ptr(), out.len()) }
 }
 
 /// The numbers of `audit` and how many stand in `order` to the front of `out`, and the order of an accepted batch to the front of
-/// `order`, two numbers for each item: an event's trace line and 0, or an operation's rid and num. 5, or 0 where one of the two is too
+/// `order`, two numbers for each item: an event's trace line and 0, or an operation's rid and num. 7, or 0 where one of the two is too
 /// short and nothing is written.
 pub fn order(
     programs: &[u8],

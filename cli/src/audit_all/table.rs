@@ -6,13 +6,15 @@ use crate::findings::{Finding, State};
 use crate::outcome::NotRun;
 use crate::shown;
 
-const HEADING: [&str; 8] = [
+const HEADING: [&str; 10] = [
     "batch",
     "state",
     "verdict",
     "line",
     "requests",
     "operations",
+    "blocks",
+    "rest",
     "time",
     "sentence",
 ];
@@ -39,6 +41,7 @@ pub fn of(results: &Results, findings: &Findings) -> Result<String, NotRun> {
 fn row_of(finding: &Finding) -> String {
     let number = |number: Option<u64>| number.map_or(String::new(), |number| number.to_string());
     let audited = finding.audited;
+    let bill = audited.and_then(|audited| audited.bill);
     row([
         shown::name(&finding.batch),
         finding.state.word().to_owned(),
@@ -46,6 +49,8 @@ fn row_of(finding: &Finding) -> String {
         number(audited.map(|audited| audited.line)),
         number(audited.map(|audited| audited.requests)),
         number(audited.map(|audited| audited.operations)),
+        number(bill.map(|bill| bill.blocks)),
+        number(bill.map(|bill| bill.rest)),
         finding.time.clone(),
         finding.sentence.clone(),
     ])

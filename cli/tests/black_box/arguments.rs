@@ -271,7 +271,7 @@ fn names_that_a_shell_could_take_for_something_else(room: &Room) -> Done {
             .end();
         assert_eq!(
             ended.is(0).printed(expected("case-c")).sentence(),
-            "accepted: 2 requests, 4 operations"
+            "accepted: 2 requests, 4 operations (0 blocks, rest 4)"
         );
     }
     Ok(())

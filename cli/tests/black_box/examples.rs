@@ -53,13 +53,23 @@ fn number(printed: &[u8], word: &str) -> Option<u64> {
         .map(|(_, number)| number.parse().unwrap())
 }
 
-/// How many requests and operations an accepted example has, as a sentence says it.
-fn counts(name: &str) -> String {
-    let count = |word: &str| match number(&expected(name), word) {
+/// A number of an accepted example with its noun, as a sentence says it.
+fn count(name: &str, word: &str) -> String {
+    match number(&expected(name), word) {
         Some(1) => format!("1 {}", word.trim_end_matches('s')),
         many => format!("{} {word}", many.unwrap()),
-    };
-    format!("{}, {}", count("requests"), count("operations"))
+    }
+}
+
+/// How many requests and operations an accepted example has.
+fn counts(name: &str) -> String {
+    format!("{}, {}", count(name, "requests"), count(name, "operations"))
+}
+
+/// Blocks and rest of an accepted example.
+fn bill(name: &str) -> String {
+    let rest = number(&expected(name), "rest").unwrap();
+    format!("{}, rest {rest}", count(name, "blocks"))
 }
 
 #[track_caller]
@@ -89,10 +99,8 @@ fn audit_of_every_example(_: &Room) -> Done {
         let ended = audit(example(&name));
         ended.printed(expected(&name));
         if number(&expected(&name), "verdict") == Some(0) {
-            assert_eq!(
-                ended.is(0).sentence(),
-                format!("accepted: {}", counts(&name))
-            );
+            let said = format!("accepted: {} ({})", counts(&name), bill(&name));
+            assert_eq!(ended.is(0).sentence(), said);
         } else {
             check_refusal(&name, &ended.is(1).sentence());
         }
@@ -149,7 +157,14 @@ fn audit_in_json_of_every_example(_: &Room) -> Done {
         assert_eq!(object["batch"], text(folder.to_str().unwrap()));
         assert_eq!(object["state"], text(state));
         assert_eq!(object["sentence"], text(&plain.sentence()));
-        for key in ["verdict", "line", "requests", "operations"] {
+        for key in [
+            "verdict",
+            "line",
+            "requests",
+            "operations",
+            "blocks",
+            "rest",
+        ] {
             let number = number(&expected(&name), key).unwrap();
             assert_eq!(object[key], Value::Number(number), "{key} of {name}");
         }

@@ -19,7 +19,7 @@ pub enum Value {
 pub type Object = BTreeMap<String, Value>;
 
 /// The keys that every object has.
-pub const KEYS: [&str; 13] = [
+pub const KEYS: [&str; 15] = [
     "batch",
     "state",
     "verdict",
@@ -28,6 +28,8 @@ pub const KEYS: [&str; 13] = [
     "bytes",
     "requests",
     "operations",
+    "blocks",
+    "rest",
     "order",
     "sentence",
     "version",

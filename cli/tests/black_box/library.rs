@@ -10,6 +10,7 @@ tests![
     an_example_in_c,
     an_example_in_cpp,
     an_example_in_rust,
+    a_caller_for_fewer_numbers,
     the_header_alone
 ];
 
@@ -82,6 +83,43 @@ fn an_example_in_rust(room: &Room) -> Done {
         .arg(folder().join("example.rs"));
     rustc.arg("-o").arg(&program).end().is(0);
     check_example(&program);
+    Ok(())
+}
+
+/// Looks at what the audit answers to a caller that knows of four numbers, of five with the order, with slices as long and longer.
+const EARLIER_CALLER: &str = r#"
+#include "teaselshears.h"
+
+int main(void) {
+    const uint8_t nothing[1] = {0};
+    uint64_t out[8], order[2];
+    size_t i;
+    for (i = 0; i < 8; i++)
+        out[i] = 7;
+    if (teaselshears_audit(nothing, 0, nothing, 0, nothing, 0, out, 4) != 0)
+        return 1;
+    if (teaselshears_order(nothing, 0, nothing, 0, nothing, 0, out, 5, order, 2) != 0)
+        return 2;
+    for (i = 0; i < 8; i++)
+        if (out[i] != 7)
+            return 3;
+    if (teaselshears_audit(nothing, 0, nothing, 0, nothing, 0, out, 8) != 6)
+        return 4;
+    return teaselshears_order(nothing, 0, nothing, 0, nothing, 0, out, 8, order, 2) != 7 ? 5 : 0;
+}
+"#;
+
+/// A caller that was compiled before there were blocks and rest never gets the answer that it looks for.
+fn a_caller_for_fewer_numbers(room: &Room) -> Done {
+    needs("cc")?;
+    let (library, program) = (built()?, room.path("earlier"));
+    let source = room.file("earlier.c", EARLIER_CALLER);
+    let mut cc = Command::new("cc");
+    cc.args(["-std=c99", "-Wall", "-Wextra", "-Werror", "-I"])
+        .arg(folder());
+    cc.arg(source).arg(library).arg("-o").arg(&program);
+    cc.end().is(0);
+    Command::new(&program).end().is(0);
     Ok(())
 }
 

@@ -4,6 +4,7 @@
 //! `, K skipped` behind it where a test could not be tried on this machine; what it lacked is said above.
 
 mod arguments;
+mod bill;
 mod csv;
 mod disk;
 mod environment;
@@ -25,6 +26,7 @@ mod room;
 mod run;
 mod spool;
 mod spool_changed;
+mod spool_earlier;
 mod spool_guards;
 mod spool_names;
 mod spool_stopped;
@@ -49,6 +51,7 @@ fn main() -> ExitCode {
         identity::TESTS,
         order::TESTS,
         order_answers::TESTS,
+        bill::TESTS,
         texts::TESTS,
         unreadable::TESTS,
         streams::TESTS,
@@ -56,6 +59,7 @@ fn main() -> ExitCode {
         record::TESTS,
         spool_names::TESTS,
         spool_changed::TESTS,
+        spool_earlier::TESTS,
         spool_guards::TESTS,
         many::TESTS,
         disk::TESTS,

@@ -1,7 +1,7 @@
 //! The order of an accepted batch: what `audit` prints behind the verdict lines, and what `order` tells of it in words.
 
 use crate::harness::{tests, Done};
-use crate::room::{audited_examples, example, expected_order, read, Room, TEXTS};
+use crate::room::{audited_examples, example, expected_order, read, Room, TEXTS, VERDICT_LINES};
 use crate::run::{audit, order, program, record, Ended, Run};
 use std::fs;
 use std::path::{Path, PathBuf};
@@ -75,18 +75,21 @@ event=3       trace.txt, line 3: "response=1,0,1"
 event=4       trace.txt, line 4: "response=2,0,1"
 "#,
     );
-    assert_eq!(ended.sentence(), "accepted: 2 requests, 4 operations");
+    assert_eq!(
+        ended.sentence(),
+        "accepted: 2 requests, 4 operations (0 blocks, rest 4)"
+    );
     Ok(())
 }
 
 /// A batch that the host recorded of these programs and this schedule.
 #[track_caller]
-fn recorded(room: &Room, programs: &str, schedule: &str) -> PathBuf {
+pub fn recorded(room: &Room, name: &str, programs: &str, schedule: &str) -> PathBuf {
     let folder = room.folder("schedule");
     fs::write(folder.join("programs.txt"), programs).unwrap();
     fs::write(folder.join("schedule.txt"), schedule).unwrap();
-    record(&folder, room.path("recorded")).is(0);
-    room.path("recorded")
+    record(&folder, room.path(name)).is(0);
+    room.path(name)
 }
 
 /// The item of each operation, and what its request does.
@@ -107,7 +110,7 @@ fn every_operation_in_words(room: &Room) -> Done {
         "arrive=65535,0,3,18446744073709551615\n{}",
         "turn=65535\n".repeat(7)
     );
-    let batch = recorded(room, programs, &schedule);
+    let batch = recorded(room, "batch", programs, &schedule);
     let wanted = [
         "op=65535,1: 65535 reads register 7 and gets 0",
         "op=65535,2: 65535 writes 3 to register 7",
@@ -137,7 +140,8 @@ fn a_refused_batch_has_no_order(_: &Room) -> Done {
     assert!(names.len() >= 12, "an example of each refusal");
     for name in names {
         let audited = audit(example(&name));
-        assert_eq!(audited.is(1).text().lines().count(), 4, "{audited}");
+        let lines = audited.is(1).text().lines().count();
+        assert_eq!(lines, VERDICT_LINES, "{audited}");
         let ended = order(example(&name));
         assert_eq!(
             ended.is(1).printed("").sentence(),
@@ -159,11 +163,13 @@ fn the_longest_order(room: &Room) -> Done {
         .collect();
     // One request after another, so that no write is lost: what is read goes from 0 to 511.
     let turns: String = rids.map(|r| format!("turn={r}\n").repeat(17)).collect();
-    let batch = recorded(room, &programs, &(arrivals + &turns));
+    let batch = recorded(room, "batch", &programs, &(arrivals + &turns));
     let printed = audit(&batch).is(0).text();
-    let order_lines: Vec<&str> = printed.lines().skip(4).collect();
+    let order_lines: Vec<&str> = printed.lines().skip(VERDICT_LINES).collect();
     assert_eq!(order_lines.len(), 1_024 + 128);
     let ended = order(&batch);
+    let counts = "accepted: 64 requests, 1024 operations (10 blocks, rest 24)";
+    assert_eq!(ended.sentence(), counts);
     assert_eq!(items(ended.is(0)), order_lines);
     let operations = operations(&ended);
     let reads = operations.iter().filter(|line| line.contains(" reads "));
@@ -192,21 +198,26 @@ fn missing_texts_of_an_order(room: &Room) -> Done {
         fs::remove_file(batch.join(missing)).unwrap();
         order(&batch).could_not(missing);
         let ended = program("order").arg("--missing-as-empty").arg(&batch).end();
-        let said =
-            format!("accepted: 0 requests, 0 operations; missing, and read as empty: {missing}");
+        let counts = "accepted: 0 requests, 0 operations (0 blocks, rest 0)";
+        let said = format!("{counts}; missing, and read as empty: {missing}");
         assert_eq!(ended.is(0).printed("").sentence(), said);
     }
     Ok(())
 }
 
 /// A text with its line ends taken for spaces.
-fn flowing(ended: &Ended) -> String {
-    let text = ended.is(0).text();
+pub fn flowing(text: &str) -> String {
     text.split_whitespace().collect::<Vec<_>>().join(" ")
 }
 
+/// The help of a command.
+#[track_caller]
+pub fn help(command: &str) -> String {
+    flowing(&program(command).arg("--help").end().is(0).text())
+}
+
 fn help_says_what_is_proved(_: &Room) -> Done {
-    let help = flowing(&program("order").arg("--help").end());
+    let order = help("order");
     for part in [
         "the order that 'teaselshears audit' prints",
         "The order is proved: the first word of each line.",
@@ -214,9 +225,9 @@ fn help_says_what_is_proved(_: &Room) -> Done {
         "reads register O and gets V",
         "puts V at key K of store O",
     ] {
-        assert!(help.contains(part), "{part}: {help}");
+        assert!(order.contains(part), "{part}: {order}");
     }
-    let audit = flowing(&program("audit").arg("--help").end());
+    let audit = help("audit");
     for part in [
         "event=N",
         "op=RID,NUM",

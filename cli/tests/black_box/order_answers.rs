@@ -1,4 +1,4 @@
-//! Answers of the library that are no verdict with its order: the program says so, and never ends in status 0 or 1.
+//! Answers of the library that are no verdict with its bill and its order: the program says so, and never ends in status 0 or 1.
 //!
 //! The library is one that answers whatever the report says, so that the program over it is given every answer by its batch.
 
@@ -26,6 +26,9 @@ size_t teaselshears_record_text(const char *p, size_t pn, const char *s, size_t 
   return 0;
 }
 ";
+
+/// An answer that is one, of a refused batch.
+const REFUSED: &str = "verdict=9\nline=0\nrequests=0\noperations=0\nblocks=0\nrest=0\n";
 
 /// The program over that library.
 fn built(room: &Room) -> Result<PathBuf, Skipped> {
@@ -83,10 +86,9 @@ fn not_understood(room: &Room, program: &Path, answer: &str) {
     let ended = run(program, &["audit", "--json"], &folder);
     let object = only_object(&ended.is(2).stdout);
     assert_eq!(object["state"], text("failed"), "{answer:?}");
-    assert_eq!(
-        (&object["verdict"], &object["order"]),
-        (&Value::Null, &Value::Null)
-    );
+    for key in ["verdict", "blocks", "rest", "order"] {
+        assert_eq!(object[key], Value::Null, "{key} of {answer:?}");
+    }
     let mut all = Command::new(program);
     all.arg("audit-all").arg(room.path("spool"));
     all.arg(room.path("results")).end().is(2);
@@ -94,20 +96,13 @@ fn not_understood(room: &Room, program: &Path, answer: &str) {
     assert!(kept.is_empty(), "{answer:?} is not kept");
 }
 
-/// One test, since the program is built for it.
-fn answers_that_are_not_understood(room: &Room) -> Done {
-    let program = built(room)?;
-    let whole = String::from_utf8(expected("case-c")).unwrap();
-    let refused = "verdict=9\nline=0\nrequests=0\noperations=0\n";
-    // An answer that is one goes through.
-    let ended = run(&program, &["audit"], &batch(room, &whole));
-    ended.is(0).printed(&whole);
-    let ended = run(&program, &["audit"], &batch(room, refused));
-    ended.is(1).printed(refused);
-    for answer in [
+/// Answers that have no verdict, or another order than there is.
+fn wrong_orders(whole: &str) -> Vec<String> {
+    vec![
         "".to_string(),
         "verdict=0\n".to_string(),
         "verdict=0\nline=0\nrequests=2\noperations=4\n".to_string(),
+        "verdict=0\nline=0\nrequests=2\noperations=4\nblocks=0\nrest=4\n".to_string(),
         format!("{whole}garbage"),
         format!("{whole}garbage\n"),
         format!("{whole}\n"),
@@ -120,9 +115,46 @@ fn answers_that_are_not_understood(room: &Room) -> Done {
         whole.replace("op=2,1\n", "reply=2,1\n"),
         whole.replace("op=2,1\n", ""),
         whole.replace("verdict=0\n", "verdict=9\n"),
-        format!("{refused}event=1\n"),
-        format!("{refused}\n"),
-    ] {
+        format!("{REFUSED}event=1\n"),
+        format!("{REFUSED}\n"),
+    ]
+}
+
+/// Answers whose bill is missing, is not whole or does not add up.
+fn wrong_bills(whole: &str) -> Vec<String> {
+    let bill = |lines: &str| whole.replace("blocks=0\nrest=4\n", lines);
+    vec![
+        bill(""),
+        bill("blocks=0\n"),
+        bill("rest=4\n"),
+        bill("rest=4\nblocks=0\n"),
+        bill("blocks=4\nrest=0\n"),
+        bill("blocks=0\nrest=5\n"),
+        bill("blocks=1\nrest=4\n"),
+        bill("blocks=0\nrest=04\n"),
+        // A hundred times 2^62 is 0 modulo 2^64.
+        bill("blocks=4611686018427387904\nrest=4\n"),
+        bill("blocks=18446744073709551615\nrest=18446744073709551615\n"),
+        REFUSED.replace("blocks=0\nrest=0\n", ""),
+        REFUSED.replace("rest=0\n", ""),
+        REFUSED.replace("rest=0\n", "rest=4\n"),
+        REFUSED.replace("blocks=0\n", "blocks=1\n"),
+        REFUSED
+            .replace("operations=0\n", "operations=4\n")
+            .replace("rest=0\n", "rest=4\n"),
+    ]
+}
+
+/// One test, since the program is built for it.
+fn answers_that_are_not_understood(room: &Room) -> Done {
+    let program = built(room)?;
+    let whole = String::from_utf8(expected("case-c")).unwrap();
+    // An answer that is one goes through.
+    let ended = run(&program, &["audit"], &batch(room, &whole));
+    ended.is(0).printed(&whole);
+    let ended = run(&program, &["audit"], &batch(room, REFUSED));
+    ended.is(1).printed(REFUSED);
+    for answer in [wrong_orders(&whole), wrong_bills(&whole)].concat() {
         not_understood(room, &program, &answer);
     }
     // The report has no log line, so no operation can be told.

@@ -21,17 +21,21 @@ pub struct Row {
     pub line: String,
     pub requests: String,
     pub operations: String,
+    pub blocks: String,
+    pub rest: String,
     pub time: String,
     pub sentence: String,
 }
 
-pub const HEADING: [&str; 8] = [
+pub const HEADING: [&str; 10] = [
     "batch",
     "state",
     "verdict",
     "line",
     "requests",
     "operations",
+    "blocks",
+    "rest",
     "time",
     "sentence",
 ];
@@ -42,7 +46,7 @@ pub fn rows(results: &Path) -> Vec<Row> {
     let mut records = csv::records(&read(results.join("table.csv"))).into_iter();
     assert_eq!(records.next().expect("a heading"), HEADING);
     let row = |record: Vec<String>| {
-        let [batch, state, verdict, line, requests, operations, time, sentence] =
+        let [batch, state, verdict, line, requests, operations, blocks, rest, time, sentence] =
             record.try_into().unwrap();
         Row {
             batch,
@@ -51,6 +55,8 @@ pub fn rows(results: &Path) -> Vec<Row> {
             line,
             requests,
             operations,
+            blocks,
+            rest,
             time,
             sentence,
         }
@@ -62,13 +68,16 @@ pub fn rows(results: &Path) -> Vec<Row> {
     rows
 }
 
-/// A row has a verdict only where it is accepted or refused.
+/// A row has a verdict and a bill only where it is accepted or refused.
 #[track_caller]
 fn check_row(row: &Row) {
     match row.state.as_str() {
         "accepted" => assert_eq!((&*row.verdict, &*row.line), ("0", "0"), "{row:?}"),
         "refused" => assert!(!matches!(&*row.verdict, "" | "0"), "{row:?}"),
-        "changed" | "failed" | "waiting" => assert_eq!(row.verdict, "", "{row:?}"),
+        "changed" | "failed" | "waiting" => {
+            let bill = (&*row.blocks, &*row.rest);
+            assert_eq!((&*row.verdict, bill), ("", ("", "")), "{row:?}");
+        }
         _ => panic!("no such state: {row:?}"),
     }
 }
@@ -207,8 +216,8 @@ fn check_row_of(results: &Path, name: &OsStr, rows: &[Row]) {
         .unwrap_or_else(|| panic!("no row for {name:?}: {rows:?}"));
     assert!(found.next().is_none(), "one row for {name:?}");
     let said = format!(
-        "verdict={}\nline={}\nrequests={}\noperations={}\n",
-        row.verdict, row.line, row.requests, row.operations
+        "verdict={}\nline={}\nrequests={}\noperations={}\nblocks={}\nrest={}\n",
+        row.verdict, row.line, row.requests, row.operations, row.blocks, row.rest
     );
     let output = String::from_utf8(read(kept.join("output"))).unwrap();
     let behind = output.strip_prefix(&said);

@@ -10,6 +10,9 @@ use std::sync::atomic::{AtomicUsize, Ordering};
 /// The texts of a batch.
 pub const TEXTS: [&str; 3] = ["programs.txt", "trace.txt", "report.txt"];
 
+/// How many lines an audit prints before the order.
+pub const VERDICT_LINES: usize = 6;
+
 /// A fresh folder below the one for temporary files; it is removed at its end.
 pub struct Room(PathBuf);
 
@@ -103,7 +106,8 @@ pub fn expected(name: &str) -> Vec<u8> {
 /// The order that an example must be printed with, line by line; none where it is refused.
 pub fn expected_order(name: &str) -> Vec<String> {
     let printed = String::from_utf8(expected(name)).unwrap();
-    printed.lines().skip(4).map(String::from).collect()
+    let lines = printed.lines().skip(VERDICT_LINES);
+    lines.map(String::from).collect()
 }
 
 pub fn read(path: impl AsRef<Path>) -> Vec<u8> {

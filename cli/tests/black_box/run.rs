@@ -59,6 +59,14 @@ pub fn audit_all(spool: impl AsRef<Path>, results: impl AsRef<Path>) -> Ended {
         .end()
 }
 
+/// The same, with an object printed for each batch.
+pub fn audit_all_json(spool: impl AsRef<Path>, results: impl AsRef<Path>) -> Ended {
+    program("audit-all")
+        .arg("--json")
+        .args([spool.as_ref(), results.as_ref()])
+        .end()
+}
+
 /// A script of the shell, run by `sh -c` with these arguments as $1 and so on.
 pub fn shell(script: &str) -> Command {
     let mut shell = Command::new("sh");

@@ -1,10 +1,10 @@
 //! Batches that fail, batches that change, and kept results that are damaged: none of them is ever accepted.
 
 use crate::harness::{tests, Done};
-use crate::json::{objects, text, Value};
 use crate::results::{check_all_kept, check_kept, kept, row, states};
-use crate::room::{copy_folder, example, expected_order, names, names_in, read, tree, Room, TEXTS};
-use crate::run::{audit, audit_all, program, Ended, Run};
+use crate::room::{copy_folder, example, names, names_in, read, tree, Room, TEXTS};
+use crate::run::{audit, audit_all, Ended};
+use crate::spool_earlier::{with_order, EARLIEST};
 use std::fs;
 use std::os::unix::fs::symlink;
 use std::path::{Path, PathBuf};
@@ -19,14 +19,14 @@ tests![
     a_refused_batch_that_becomes_good,
     a_kept_result_whose_output_is_empty,
     a_kept_result_whose_order_is_damaged,
-    a_kept_result_from_before_there_was_an_order,
+    a_kept_result_whose_bill_is_damaged,
     a_kept_result_that_lacks_a_file,
     a_kept_result_with_another_text,
     a_kept_result_that_is_a_file,
 ];
 
 /// A spool of three accepted batches with their results.
-fn kept_spool(room: &Room) -> (PathBuf, PathBuf) {
+pub fn kept_spool(room: &Room) -> (PathBuf, PathBuf) {
     let (spool, results) = (room.spool("spool", "case-c", 3), room.path("results"));
     audit_all(&spool, &results).is(0);
     (spool, results)
@@ -264,6 +264,8 @@ fn a_kept_result_whose_order_is_damaged(room: &Room) -> Done {
         &whole.replace("op=2,2\n", ""),
         &whole.replace("op=2,2\n", "op=2\n"),
         &whole.replace("verdict=0\n", "verdict=9\n"),
+        &with_order().replace("event=4\n", ""),
+        &with_order().replace("op=2,2\n", ""),
     ] {
         fs::write(results.join("batches/batch-2/output"), output).unwrap();
         damaged(&spool, &results, "batch-2");
@@ -271,24 +273,26 @@ fn a_kept_result_whose_order_is_damaged(room: &Room) -> Done {
     Ok(())
 }
 
-/// What an earlier version kept has the verdict lines alone: it stays, and is as it was, with no order.
-fn a_kept_result_from_before_there_was_an_order(room: &Room) -> Done {
+fn a_kept_result_whose_bill_is_damaged(room: &Room) -> Done {
     let (spool, results) = kept_spool(room);
-    let earlier = "verdict=0\nline=0\nrequests=2\noperations=4\n";
-    fs::write(results.join("batches/batch-2/output"), earlier).unwrap();
-    let before = kept(&results);
-    let mut program = program("audit-all");
-    let ended = program.arg("--json").arg(&spool).arg(&results).end();
-    for object in objects(&ended.is(0).stdout) {
-        let order = match object["batch"] == text("batch-2") {
-            true => Value::Null,
-            false => Value::Lines(expected_order("case-c")),
-        };
-        assert_eq!(object["order"], order);
-        assert_eq!(object["operations"], Value::Number(4));
+    let whole = String::from_utf8(read(results.join("batches/batch-2/output"))).unwrap();
+    let bill = |lines: &str| whole.replace("blocks=0\nrest=4\n", lines);
+    for output in [
+        format!("{EARLIEST}blocks=0\n"),
+        format!("{EARLIEST}blocks=0\nrest=4\n"),
+        bill("blocks=0\n"),
+        bill("rest=4\n"),
+        bill("rest=4\nblocks=0\n"),
+        bill("blocks=4\nrest=0\n"),
+        bill("blocks=0\nrest=5\n"),
+        bill("blocks=1\nrest=4\n"),
+        bill("blocks=0\nrest=04\n"),
+        bill("blocks=0\nrest=4\nblocks=0\nrest=4\n"),
+        bill("blocks=18446744073709551615\nrest=4\n"),
+    ] {
+        fs::write(results.join("batches/batch-2/output"), output).unwrap();
+        damaged(&spool, &results, "batch-2");
     }
-    assert_eq!(kept(&results), before, "nothing is audited again");
-    assert_eq!(row(&results, "batch-2").state, "accepted");
     Ok(())
 }
 

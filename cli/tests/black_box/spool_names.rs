@@ -216,7 +216,7 @@ fn the_table_as_python_reads_it(room: &Room) -> Done {
         .map(|row| row.split('\t').collect::<Vec<_>>());
     assert_eq!(records.next().unwrap(), HEADING);
     let own = rows(&results);
-    let firsts: Vec<[&str; 3]> = records.map(|r| [r[0], r[1], r[7]]).collect();
+    let firsts: Vec<[&str; 3]> = records.map(|r| [r[0], r[1], r[9]]).collect();
     let wanted: Vec<[&str; 3]> = own
         .iter()
         .map(|r| [&*r.batch, &*r.state, &*r.sentence])

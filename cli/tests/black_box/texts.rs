@@ -62,8 +62,8 @@ fn a_missing_text_that_is_read_as_empty(room: &Room) -> Done {
         let batch = room.batch(&format!("empty-{missing}"), "empty");
         fs::remove_file(batch.join(missing)).unwrap();
         let ended = with_missing_as_empty(&batch);
-        let said =
-            format!("accepted: 0 requests, 0 operations; missing, and read as empty: {missing}");
+        let counts = "accepted: 0 requests, 0 operations (0 blocks, rest 0)";
+        let said = format!("{counts}; missing, and read as empty: {missing}");
         assert_eq!(ended.is(0).printed(expected("empty")).sentence(), said);
     }
     for (missing, like, place) in [

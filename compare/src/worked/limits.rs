@@ -23,24 +23,22 @@ fn counts() -> Vec<Case> {
         report: [&full.report, report.as_bytes()].concat(),
     };
     vec![
-        accepted("64 requests", requests(64), 64, 0),
+        accepted("64 requests", requests(64), [64, 0, 0, 0]),
         refused("65 requests", requests(65), 3, 65),
         refused("65 responses", with("response=0,0,7\n", ""), 3, 129),
         refused("65 of lines", with("", "of=0,0,0\n"), 5, 65),
-        accepted("1,024 log lines", operations(0), 32, 1_024),
+        accepted("1,024 log lines", operations(0), [32, 1_024, 10, 24]),
         refused("1,025 log lines", operations(1), 5, 32 + 1_025),
         accepted(
             "16 programs",
             batch(&programs(16, 1), ANSWERED, "of=1,0,0\n"),
-            1,
-            0,
+            [1, 0, 0, 0],
         ),
         refused("17 programs", batch(&programs(17, 1), "x", "x"), 1, 33),
         accepted(
             "64 instructions",
             batch(&programs(1, 64), ANSWERED, "of=1,0,0\n"),
-            1,
-            0,
+            [1, 0, 0, 0],
         ),
         refused("65 instructions", batch(&programs(1, 65), "x", "x"), 1, 66),
     ]
@@ -48,11 +46,19 @@ fn counts() -> Vec<Case> {
 
 fn instructions() -> Vec<Case> {
     vec![
-        accepted("reply as 256th instruction", rounds(126, "0,0"), 1, 0),
+        accepted(
+            "reply as 256th instruction",
+            rounds(126, "0,0"),
+            [1, 0, 0, 0],
+        ),
         refused("reply as 257th instruction", rounds(127, "0,0"), 11, 1),
-        accepted("cut off before the 257th", rounds(127, "1,0"), 1, 0),
+        accepted("cut off before the 257th", rounds(127, "1,0"), [1, 0, 0, 0]),
         refused("cut off too early", rounds(126, "1,0"), 11, 1),
-        accepted("128 operations, the last the 256th", writes(128), 1, 128),
+        accepted(
+            "128 operations, the last the 256th",
+            writes(128),
+            [1, 128, 1, 28],
+        ),
         refused("a 129th operation behind the cut", writes(129), 10, 1),
     ]
 }
@@ -122,7 +128,7 @@ fn instruction(length: usize) -> String {
 
 fn numbers() -> Vec<Case> {
     vec![
-        accepted("0 minus 1", minus("18446744073709551615"), 1, 0),
+        accepted("0 minus 1", minus("18446744073709551615"), [1, 0, 0, 0]),
         refused("0 minus 1 is not 0", minus("0"), 11, 1),
         refused("2^64 is no number", minus("18446744073709551616"), 3, 2),
         refused("20 digits above 2^64", minus("99999999999999999999"), 3, 2),
@@ -146,8 +152,7 @@ fn ranges() -> Vec<Case> {
         accepted(
             "rid 65,535, group 63",
             batch(REPLIES, two, "of=65535,63,0\n"),
-            1,
-            0,
+            [1, 0, 0, 0],
         ),
         refused("rid 65,536", trace("request=65536,0,0,0\n"), 3, 1),
         refused(

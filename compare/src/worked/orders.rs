@@ -8,16 +8,24 @@ use crate::texts::{read_programs, write_report, write_trace, BatchTexts, Entry, 
 
 pub fn orders() -> Vec<Case> {
     vec![
-        accepted("what is free later goes first", free_later(), 2, 5).in_order(
+        accepted("what is free later goes first", free_later(), [2, 5, 0, 5]).in_order(
             "event=1\nevent=2\nop=2,1\nop=2,2\nop=2,3\nop=1,1\nop=1,2\nevent=3\nevent=4\n",
         ),
-        accepted("operations go before a response", response_waits(), 2, 2)
-            .in_order("event=1\nevent=2\nop=2,1\nop=2,2\nevent=3\nevent=4\n"),
-        accepted("registers and stores", registers_and_stores(), 3, 9).in_order(
+        accepted(
+            "operations go before a response",
+            response_waits(),
+            [2, 2, 0, 2],
+        )
+        .in_order("event=1\nevent=2\nop=2,1\nop=2,2\nevent=3\nevent=4\n"),
+        accepted("registers and stores", registers_and_stores(), [3, 9, 0, 9]).in_order(
             "event=1\nop=30,1\nop=30,2\nop=30,3\nevent=2\nop=10,1\nop=10,2\nevent=3\nevent=4\n\
              op=20,1\nop=20,2\nop=20,3\nop=10,3\nevent=5\nevent=6\n",
         ),
-        accepted("64 requests side by side", side_by_side(), 64, 1_024),
+        accepted(
+            "64 requests side by side",
+            side_by_side(),
+            [64, 1_024, 10, 24],
+        ),
     ]
 }
 

@@ -12,7 +12,7 @@ ghost use Rattle.lines.specs.Put.{front};
 ghost use Rattle.verifier.specs.Printed.{printedText, mostPrinted};
 
 // As much as is ever printed (`mostPrinted`).
-const ROOM: usize = 14709;
+const ROOM: usize = 14763;
 
 // What is printed, to the front of out, and how long it is. It has room whatever the texts are.
 fn fill(programs: &[u8], trace: &[u8], report: &[u8], out: &mut [u8; ROOM]) -> usize

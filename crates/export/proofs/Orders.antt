@@ -1,11 +1,10 @@
 -- Laws of an order that is handed out: both slices have room, or both are as they were.
 use Prim.Native.Nat.{ℕ, _<_, _≤_}
-use mathlib.Core.Bool.{Bool, cond, _||_}
 use mathlib.Core.List.{List, [], _∷_, _++_}
 use mathlib.Core.Path.{_≡_, sym, ap, _∙_}
 use lib.Dec.{ltb}
 use lib.ListN.{length, getD, set}
-use borrow.Author.Tests.{lt-ltb, le-ltb, ltb-true, ltb-false}
+use borrow.Author.Tests.{ltb-true, ltb-false}
 use Rattle.lines.specs.Put.{front, writtenOf, putOf, leftOf, PutIs}
 use Rattle.lines.specs.declared.writer.Put.{Put}
 use Rattle.lines.specs.declared.writer.Put.the-variants.{Wrote, Short}
@@ -13,6 +12,7 @@ use Rattle.lines.proofs.Puts.{put-done, front-more}
 use Rattle.ordering.proofs.Basics.{clash, byBool}
 use Rattle.verifier.specs.declared.Audited.{Audited}
 use Rattle.export.specs.Numbers.{auditNumbers, ifBoth, OrderHanded}
+use Rattle.export.proofs.Rooms.{no-room, room}
 
 -- a text that was put had room, and one that was not had none
 module _ (t o p : List ℕ) (q : Put) (i : PutIs t o p q) where
@@ -29,22 +29,19 @@ module _ (t o p : List ℕ) (q : Put) (i : PutIs t o p q) where
       (λ b. let h = ltb-false _ _ b in let w = put-done t o p q h i in (h, sym (ap writtenOf e) ∙ w .0, w .1))
 
 module _ {A : Type 0} (out t order : List ℕ) (x y : A) where
-  no-place : length out < 5 → y ≡ ifBoth out t order x y
-  unfolding ifBoth
-  no-place h = sym (ap (λ (b : Bool). cond (b || ltb (length order) (length t)) y x) (lt-ltb (length out) 5 h))
+  no-place : length out < 7 → y ≡ ifBoth out t order x y
+  no-place h = no-room 7 out _ y h
 
   no-items : length order < length t → y ≡ ifBoth out t order x y
-  unfolding ifBoth
-  no-items h = byBool (ltb (length out) 5)
-      (λ b. sym (ap (λ (c : Bool). cond (c || ltb (length order) (length t)) y x) b))
-      (λ b. sym ((λ i. cond (b i || lt-ltb (length order) (length t) h i) y x)))
+  no-items h = byBool (ltb (length out) 7)
+      (λ b. no-room 7 out _ y (ltb-true _ _ b))
+      (λ b. no-room (length t) order x y h ∙ room 7 out _ y (ltb-false _ _ b))
 
-  both-rooms : 5 ≤ length out → length t ≤ length order → x ≡ ifBoth out t order x y
-  unfolding ifBoth
-  both-rooms h k = sym (λ i. cond (le-ltb (length out) 5 h i || le-ltb (length order) (length t) k i) y x)
+  both-rooms : 7 ≤ length out → length t ≤ length order → x ≡ ifBoth out t order x y
+  both-rooms h k = room (length t) order x y k ∙ room 7 out _ y h
 
 module _ (a : Audited) (t out order : List ℕ) where
-  pub not-placed : length out < 5 → OrderHanded a t out order out order 0
+  pub not-placed : length out < 7 → OrderHanded a t out order out order 0
   not-placed h = record { count = no-place out t order _ _ h; numbers = no-place out t order _ _ h; items = no-place out t order _ _ h }
 
   module _ (after : List ℕ) (q : Put) (i : PutIs t order after q) where
@@ -58,12 +55,12 @@ module _ (a : Audited) (t out order : List ℕ) where
         }
 
     -- n numbers of the order were put, and the result is b
-    pub ordered : (n : ℕ) → q ≡ Wrote n → (b : Audited) → b ≡ a → 5 ≤ length out → (u : List ℕ) → u ≡ front (auditNumbers b) out →
-        OrderHanded a t out order (set u 4 n) after 5
+    pub ordered : (n : ℕ) → q ≡ Wrote n → (b : Audited) → b ≡ a → 7 ≤ length out → (u : List ℕ) → u ≡ front (auditNumbers b) out →
+        OrderHanded a t out order (set u 6 n) after 7
     ordered n e b d h u f =
         let w = put-wrote t order after q i n e in
-        let g : set u 4 n ≡ front (auditNumbers a ++ (length t ∷ [])) out =
-        (λ j. set ((f ∙ ap (λ b. front (auditNumbers b) out) d) j) 4 (w .1 j)) ∙ front-more (auditNumbers a) (length t) out h in
+        let g : set u 6 n ≡ front (auditNumbers a ++ (length t ∷ [])) out =
+        (λ j. set ((f ∙ ap (λ b. front (auditNumbers b) out) d) j) 6 (w .1 j)) ∙ front-more (auditNumbers a) (length t) out h in
         record {
           count = both-rooms out t order _ _ h (w .0);
           numbers = g ∙ both-rooms out t order _ _ h (w .0);
@@ -72,6 +69,6 @@ module _ (a : Audited) (t out order : List ℕ) where
 
 -- what holds where a result's verdict is 0 holds where the first number handed out is
 pub first-number : {P : Type 0} (a : Audited) (out u : List ℕ) (n : ℕ) → u ≡ front (auditNumbers a) out → (a .verdict ≡ 0 → P) →
-    getD (set u 4 n) 0 0 ≡ 0 → P
+    getD (set u 6 n) 0 0 ≡ 0 → P
 unfolding front
-first-number a out u n e h z = h (sym (ap (λ u. getD (set u 4 n) 0 0) e) ∙ z)
+first-number a out u n e h z = h (sym (ap (λ u. getD (set u 6 n) 0 0) e) ∙ z)

@@ -12,36 +12,33 @@ use Rattle.host.specs.Recorded.{Texts, resultOf, RecordIs}
 use Rattle.host.specs.declared.Recorded.{Recorded}
 use Rattle.export.specs.Numbers.{ifRoom, handed, recordNumbers, recordFrom, RecordHanded}
 
-module _ {A : Type 0} (s : List ℕ) (x y : A) where
-  pub no-room : length s < 4 → y ≡ ifRoom s x y
+module _ {A : Type 0} (n : ℕ) (s : List ℕ) (x y : A) where
+  pub no-room : length s < n → y ≡ ifRoom n s x y
   unfolding ifRoom
-  no-room h = sym (ap (λ (t : Bool). cond t y x) (lt-ltb (length s) 4 h))
+  no-room h = sym (ap (λ (t : Bool). cond t y x) (lt-ltb (length s) n h))
 
-  room : 4 ≤ length s → x ≡ ifRoom s x y
+  pub room : n ≤ length s → x ≡ ifRoom n s x y
   unfolding ifRoom
-  room h = sym (ap (λ (t : Bool). cond t y x) (le-ltb (length s) 4 h))
-
-  pub in-room : {z : A} → z ≡ x → 4 ≤ length s → z ≡ ifRoom s x y
-  in-room e h = e ∙ room h
+  room h = sym (ap (λ (t : Bool). cond t y x) (le-ltb (length s) n h))
 
 -- the numbers v, which are w, stand in front
-pub handed-in : (v w s u : List ℕ) → v ≡ w → u ≡ front v s → 4 ≤ length s → u ≡ handed w s
-handed-in v w s u d e h = in-room s (front w s) s (e ∙ ap (λ v. front v s) d) h
+pub handed-in : (v w s u : List ℕ) → v ≡ w → u ≡ front v s → length w ≤ length s → u ≡ handed w s
+handed-in v w s u d e h = e ∙ ap (λ v. front v s) d ∙ room (length w) s (front w s) s h
 
 -- a run whose numbers found no room, and one that was handed out
 module _ (x : Result Texts) (trace report s : List ℕ) where
   pub not-handed : length s < 4 → RecordHanded x trace report s trace report s 0
   not-handed h =
-      record { count = no-room s _ _ h; numbers = no-room s _ _ h; traceBytes = no-room s _ _ h; reportBytes = no-room s _ _ h }
+      record { count = no-room 4 s _ _ h; numbers = no-room 4 s _ _ h; traceBytes = no-room 4 s _ _ h; reportBytes = no-room 4 s _ _ h }
 
   pub record-handed : (traceAfter reportAfter u : List ℕ) (r : Recorded) → RecordIs x trace report traceAfter reportAfter r →
       u ≡ front (recordNumbers r) s → 4 ≤ length s → RecordHanded x trace report s traceAfter reportAfter u 4
   record-handed traceAfter reportAfter u r i e h =
       record {
-        count = room s 4 0 h;
+        count = room 4 s 4 0 h;
         numbers = handed-in (recordNumbers r) (recordNumbers (resultOf x)) s u (ap recordNumbers (i .result)) e h;
-        traceBytes = in-room s _ _ (i .traceBytes) h;
-        reportBytes = in-room s _ _ (i .reportBytes) h;
+        traceBytes = i .traceBytes ∙ room 4 s _ _ h;
+        reportBytes = i .reportBytes ∙ room 4 s _ _ h;
       }
 
 -- what the host promises of an accepted run holds of the numbers that were handed out

@@ -3,6 +3,7 @@ mod numbers;
 
 use lines::Put;
 use lines::written;
+use numbers::fill_audited;
 use numbers::fill_four;
 ghost use mathlib.Core.Path.{_≡_};
 ghost use mathlib.Core.Logic.{_↔_};
@@ -18,8 +19,8 @@ ghost use Rattle.host.specs.Recorded.{recordOf};
 ghost use Rattle.export.specs.Numbers.{ifRoom, handed, auditNumbers, recordFrom, RecordHanded, OrderHanded};
 ghost use Rattle.export.specs.Printed.{PrintedIs};
 
-// The verdict on three texts: verdict, line, requests and operations to the front of out. The result is how many numbers were
-// written: four, or none where out is too short for them.
+// The verdict on three texts: verdict, line, requests, operations, blocks and rest to the front of out. The result is how many numbers were
+// written: six, or none where out is too short for them, as is that of a caller who knows of four.
 #[no_mangle]
 pub extern "C" fn teaselshears_audit(
     programs: &[u8],
@@ -27,23 +28,22 @@ pub extern "C" fn teaselshears_audit(
     report: &[u8],
     out: &mut [u64],
 ) -> usize
-    ensures count { λ r. ⌜ r ≡ ifRoom (now (out .entry)) 4 0 ⌝ }
+    ensures count { λ r. ⌜ r ≡ ifRoom 6 (now (out .entry)) 6 0 ⌝ }
     ensures numbers { λ _. ⌜ now (out .exit) ≡ handed
         (auditNumbers (auditOf (now (programs .entry)) (now (trace .entry)) (now (report .entry)))) (now (out .entry)) ⌝ }
-    ensures exactly { λ r. ⌜ ((r ≡ 4) →
+    ensures exactly { λ r. ⌜ ((r ≡ 6) →
         (getD (now (out .exit)) 0 0 ≡ 0) ↔ Accepts (now (programs .entry)) (now (trace .entry)) (now (report .entry))) ⌝ }
 {
-    if out.len() < 4 {
+    if out.len() < 6 {
         return 0;
     }
-    let a = verifier::audit(programs, trace, report);
-    fill_four(out, a.verdict, a.line, a.requests, a.operations);
-    4
+    fill_audited(out, verifier::audit(programs, trace, report));
+    6
 }
 
-// The verdict on three texts with the order of an accepted batch: verdict, line, requests, operations and how many numbers the order has to
-// the front of out, and these, two for each item, to the front of order. The result is how many numbers were written to out: five, or none
-// where out or order is too short, and then neither is touched.
+// The verdict on three texts with the order of an accepted batch: the six numbers of the verdict and how many the order has to the front of
+// out, and these, two for each item, to the front of order. The result is how many numbers were written to out: seven, or none where out or
+// order is too short, and then neither is touched.
 #[no_mangle]
 pub extern "C" fn teaselshears_order(
     programs: &[u8],
@@ -55,11 +55,11 @@ pub extern "C" fn teaselshears_order(
     ensures meaning { λ r. ⌜ OrderHanded (auditOf (now (programs .entry)) (now (trace .entry)) (now (report .entry)))
         (orderNumbers 1 (orderOf (now (programs .entry)) (now (trace .entry)) (now (report .entry))))
         (now (out .entry)) (now (order .entry)) (now (out .exit)) (now (order .exit)) r ⌝ }
-    ensures read { λ r. ⌜ ((r ≡ 5) → (getD (now (out .exit)) 0 0 ≡ 0) →
+    ensures read { λ r. ⌜ ((r ≡ 7) → (getD (now (out .exit)) 0 0 ≡ 0) →
         OrderRead (now (programs .entry)) (now (trace .entry)) (now (report .entry))
         (orderOf (now (programs .entry)) (now (trace .entry)) (now (report .entry)))) ⌝ }
 {
-    if out.len() < 5 {
+    if out.len() < 7 {
         return 0;
     }
     let r = verifier::audit_order(programs, trace, report, order);
@@ -67,16 +67,9 @@ pub extern "C" fn teaselshears_order(
     let Put::Wrote(n) = written else {
         return 0;
     };
-    let found = r.audited;
-    fill_four(
-        out,
-        found.verdict,
-        found.line,
-        found.requests,
-        found.operations,
-    );
-    out[4] = n as u64;
-    5
+    fill_audited(out, r.audited);
+    out[6] = n as u64;
+    7
 }
 
 // The run of a schedule: its trace and its report to the fronts of two buffers, and verdict, line and the two lengths to the front of out.

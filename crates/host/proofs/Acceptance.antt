@@ -43,9 +43,8 @@ use Rattle.machine.specs.declared.objects.Cell.the-variants.{Never}
 use Rattle.machine.specs.Rules.{row2}
 use Rattle.machine.proofs.Bounds.{Word, within, bounded}
 use Rattle.verifier.specs.Faults.{audited, auditOf}
-use Rattle.verifier.specs.declared.Audited.{Audited}
 use Rattle.verifier.proofs.Acceptance.{audit-of-read}
-use Rattle.host.specs.Accepted.{Accepted}
+use Rattle.host.specs.Accepted.{acceptance, Accepted}
 use Rattle.host.specs.Recorded.{row16, runOf, batchFrom, resultOf, batchRecorded, Texts, textsOf, fitted, recordOf, RecordIs}
 use Rattle.host.specs.Records.{Ran, Records}
 use Rattle.host.specs.declared.Recorded.{Recorded}
@@ -228,12 +227,8 @@ ran programs schedule b e =
       run = e13 .1;
     }
 
--- the result of the audit that accepts a batch
-abbrev pub accepted : Batch → Audited
-accepted b = record { verdict = 0; line = 0; requests = count isRequest (b .trace); operations = length (b .log) }
-
 module _ (programs schedule : List ℕ) (b : Batch) (e : batchRecorded programs schedule ≡ made b) where
-  batch-accepted : auditOf programs (textsOf b .trace) (textsOf b .report) ≡ accepted b
+  batch-accepted : auditOf programs (textsOf b .trace) (textsOf b .report) ≡ acceptance b
   batch-accepted =
       let r = ran programs schedule b e in
       let w = programs-words programs (r .table) (r .tableRead) in
@@ -335,7 +330,7 @@ module _ (programs schedule : List ℕ) (m n : ℕ) where
     records-made =
         ap fitting records-batch ∙ sym (passes fault 16 (row16 m n (textsOf (x .batch))) (made (textsOf (x .batch))) (x .fits))
 
-    pub records-accepted : auditOf programs (textsOf (x .batch) .trace) (textsOf (x .batch) .report) ≡ accepted (x .batch)
+    pub records-accepted : auditOf programs (textsOf (x .batch) .trace) (textsOf (x .batch) .report) ≡ acceptance (x .batch)
     records-accepted = batch-accepted programs schedule (x .batch) records-batch
 
   pub records-exactly : (resultOf (recordOf programs schedule m n) .verdict ≡ 0) ↔ Records programs schedule m n

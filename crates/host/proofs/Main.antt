@@ -4,12 +4,10 @@ use Prim.Native.Nat.{ℕ}
 use mathlib.Core.List.{List}
 use mathlib.Core.Logic.{_↔_}
 use mathlib.Core.Path.{_≡_}
-use lib.ListN.{length}
-use Rattle.text.specs.Text.{count}
-use Rattle.text.specs.Trace.{isRequest}
 use Rattle.model.specs.Batch.{Batch}
 use Rattle.model.specs.Host.{made}
 use Rattle.verifier.specs.Faults.{auditOf}
+use Rattle.host.specs.Accepted.{acceptance}
 use Rattle.host.specs.Recorded.{textsOf, batchRecorded, recordOf, resultOf}
 use Rattle.host.specs.Records.{Records}
 use Rattle.host.proofs.Acceptance.{records-made, records-exactly, records-accepted, never-short}
@@ -26,7 +24,7 @@ module _ (programs schedule : List ℕ) (m n : ℕ) where
 
     -- Demand 3: and the audit accepts them, with the counts of that batch.
     pub accepted : auditOf programs (textsOf (x .batch) .trace) (textsOf (x .batch) .report)
-        ≡ record { verdict = 0; line = 0; requests = count isRequest (x .batch .trace); operations = length (x .batch .log) }
+        ≡ acceptance (x .batch)
     accepted = records-accepted programs schedule m n x
 
 -- Row 16 does not hold of buffers as long as a text may be.

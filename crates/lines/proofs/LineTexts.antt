@@ -72,3 +72,7 @@ line-length w vs = ap length (line-text w vs) ∙ length-append w (numbersText v
 pub number-length : (v : ℕ) → length (numbersText (v ∷ [])) ≡ length (decimal v) + 1
 unfolding numbersText
 number-length v = length-append (decimal v) _
+
+-- numbers on one line are as long as each on a line of its own
+pub numbers-apart : (v : ℕ) (vs : List ℕ) → length (numbersText (v ∷ vs)) ≡ length (numbersText (v ∷ [])) + length (numbersText vs)
+numbers-apart v vs = omega (arith, numbers-more v vs, number-length v)

@@ -1,12 +1,14 @@
 -- Laws of a text in front of a buffer.
 use Prim.Native.Nat.{ℕ, _+_, _<_, _≤_}
+use mathlib.Core.Bool.{Bool, true, false}
 use mathlib.Core.List.{List, [], _∷_, _++_, append-assoc}
 use mathlib.Core.Path.{_≡_, refl, sym, _∙_, ap}
 use native.Mathlib.Omega.{arith}
 use native.Mathlib.Numerals.{add-one}
 use lib.ListN.{length, take, drop, set, length-append, length-drop}
+use lib.Dec.{ltb}
 use lib.Seq.{drop-cons, set-at, take-append-seam}
-use borrow.Author.Tests.{lt-ltb, le-ltb}
+use borrow.Author.Tests.{lt-ltb, le-ltb, ltb-true, ltb-false}
 use Rattle.lines.specs.Put.{writtenOf, front, putOf, leftOf, PutIs}
 use Rattle.lines.specs.declared.writer.Put.{Put}
 use Rattle.lines.specs.declared.writer.Put.the-variants.{Wrote, Short}
@@ -26,6 +28,20 @@ put-done t o p r h i =
     let e : putOf t o ≡ Wrote (length t) = simp (le-ltb _ _ h, putOf) in
     let f : leftOf t o ≡ front t o = simp (le-ltb _ _ h, leftOf) in
     (ap writtenOf (i .answer ∙ e), i .bytes ∙ f)
+
+-- a text in no room
+pub put-nowhere : (t : List ℕ) → (writtenOf (putOf t []) ≡ 0) × (leftOf t [] ≡ [])
+unfolding putOf leftOf front
+put-nowhere [] = (refl, refl)
+put-nowhere (b ∷ t) = let i = put-short (b ∷ t) [] (omega arith) in (sym (ap writtenOf (i .answer)), sym (i .bytes))
+
+-- no more is written than there is room for
+pub put-within : (t o p : List ℕ) (r : Put) → PutIs t o p r → writtenOf r ≤ length o
+put-within t o p r i = go (ltb (length o) (length t)) refl
+  where
+    go : (b : Bool) → ltb (length o) (length t) ≡ b → writtenOf r ≤ length o
+    go true e = omega (arith, ap writtenOf (i .answer ∙ sym (put-short t o (ltb-true (length o) (length t) e) .answer)))
+    go false e = let h = ltb-false (length o) (length t) e in omega (arith, h, put-done t o p r h i .0)
 
 -- and the buffer is as long as it was
 pub put-whole : (t o p : List ℕ) (r : Put) → PutIs t o p r → length t ≤ length o →

@@ -5,12 +5,13 @@ use mathlib.Core.Path.{_≡_, refl, sym, _∙_, ap, subst}
 use native.Mathlib.Omega.{arith}
 use native.Mathlib.Nat.{zero-add}
 use native.Mathlib.Numerals.{add-one}
-use lib.ListN.{length, getD, take, drop, set, length-append, length-drop, drop-of-length-le}
-use lib.Seq.{drop-drop, drop-at, take-at, take-add, drop-cons, take-length, length-take-le, take-append-seam, drop-append-seam, set-split}
-use Rattle.lines.specs.Put.{writtenOf, front, PutIs}
+use lib.ListN.{length, getD, take, drop, set, length-append, length-take, length-drop, drop-of-length-le}
+use lib.Seq.{drop-drop, drop-at, take-at, take-all, take-add, drop-cons, take-length, length-take-le, take-append-seam, drop-append-seam, set-split}
+use Rattle.lines.specs.Append.{AppendIs}
+use Rattle.lines.specs.Put.{writtenOf, front, putOf, leftOf, PutIs}
 use Rattle.lines.specs.declared.writer.Put.{Put}
 use Rattle.lines.proofs.Parts.{rest-all}
-use Rattle.lines.proofs.Puts.{put-done}
+use Rattle.lines.proofs.Puts.{put-done, put-nowhere, put-within}
 
 -- one element more
 pub drop-next : (l : List ℕ) (i : ℕ) → i < length l → drop i l ≡ getD l i 0 ∷ drop (i + 1) l
@@ -64,13 +65,16 @@ writing-piece {t} {o} {out} {at} p u w =
 abbrev pub lent : (out : List ℕ) (at : ℕ) (ys : List ℕ) → List ℕ
 lent out at ys = take at out ++ (ys ++ drop (length out - at) (drop at out))
 
+lent-all : (out : List ℕ) (at : ℕ) (ys : List ℕ) → lent out at ys ≡ take at out ++ ys
+lent-all out at ys =
+    let k : drop (length out - at) (drop at out) ≡ [] =
+    drop-of-length-le (drop at out) {i = length out - at} (omega (arith, length-drop at out)) in
+    ap (λ l. take at out ++ (ys ++ l)) k ∙ ap (λ l. take at out ++ l) (append-nil ys)
+
 pub writing-part : {t o out : List ℕ} {at : ℕ} (p u ys : List ℕ) (n : ℕ) → Writing t o out at (p ++ u) →
     ys ≡ front p (take (length out - at) (drop at out)) → n ≡ length p
     → Writing t o (lent out at ys) (at + n) u
-writing-part {t} {o} {out} {at} p u ys n w f e =
-    let k : drop (length out - at) (drop at out) ≡ [] =
-    drop-of-length-le (drop at out) {i = length out - at} (omega (arith, length-drop at out)) in
-    rw (e, k, append-nil ys, f, rest-all at out) (writing-piece p u w)
+writing-part {t} {o} {out} {at} p u ys n w f e = rw (e, lent-all out at ys, f, rest-all at out) (writing-piece p u w)
 
 pub writing-byte : {t o out : List ℕ} {at : ℕ} (b : ℕ) (u : List ℕ) → Writing t o out at (b ∷ u) → Writing t o (set out at b) (at + 1) u
 unfolding front
@@ -98,3 +102,39 @@ module _ {t o : List ℕ} (p u ys : List ℕ) (r : Put) (n : ℕ) where
       let k = put-done p (take (length out - at) (drop at out)) ys r
       (rw (rest-all at out, length-drop at out) (omega (arith, length-append p u, writing-room w))) d in
       writing-part p u ys n w (k .1) (e ∙ k .0)
+
+-- ── a piece appended at a place ──
+module _ (p out : List ℕ) (at : ℕ) where
+  -- by a writer that was lent `&mut out[at..]`
+  pub append-put : (ys : List ℕ) (r : Put) (n : ℕ) → PutIs p (take (length out - at) (drop at out)) ys r → n ≡ writtenOf r →
+      AppendIs p at out (lent out at ys) (at + n)
+  append-put ys r n d e =
+      let i = subst (λ l. PutIs p l ys r) (rest-all at out) d in
+      record {
+        place = ap (λ m. at + m) (e ∙ ap writtenOf (i .answer));
+        bytes = lent-all out at ys ∙ ap (λ l. take at out ++ l) (i .bytes);
+      }
+
+  -- which has not gone past the end
+  pub append-within : (ys : List ℕ) (r : Put) → at ≤ length out → PutIs p (take (length out - at) (drop at out)) ys r →
+      at + writtenOf r ≤ length out
+  append-within ys r h d = omega (arith, h, put-within p _ ys r d, length-take (length out - at) (drop at out))
+
+  -- behind the end there is no room
+  pub append-behind : length out < at → AppendIs p at out out at
+  append-behind h =
+      let d : [] ≡ drop at out = sym (drop-of-length-le out {i = at} (omega arith)) in
+      let n = subst (λ l. (writtenOf (putOf p l) ≡ 0) × (leftOf p l ≡ [])) d (put-nowhere p) in
+      record {
+        place = omega (arith, n .0);
+        bytes = sym (ap (λ l. take at out ++ l) (n .1) ∙ append-nil (take at out) ∙ take-all at out (omega arith));
+      }
+
+-- which leaves the pieces behind it
+pub writing-append : {t o out : List ℕ} {at : ℕ} (p u ys : List ℕ) (n : ℕ) → Writing t o out at (p ++ u) → AppendIs p at out ys n →
+    Writing t o ys n u
+writing-append {t} {o} {out} {at} p u ys n w d =
+    let s = drop at out in
+    let k = put-done p s (leftOf p s) (putOf p s) (omega (arith, length-append p u, writing-room w, length-drop at out))
+    (record { answer = refl; bytes = refl }) in
+    rw (d .place, d .bytes, k .0, k .1) (writing-piece p u w)

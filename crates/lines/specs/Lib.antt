@@ -6,4 +6,5 @@ pub mod Line
 pub mod Place
 pub mod LineText
 pub mod Put
+pub mod Append
 pub mod Steps

@@ -7,6 +7,7 @@ pub use lines::Place;
 pub use lines::line_at;
 pub use writer::Fields;
 pub use writer::Put;
+pub use writer::append_number_line;
 pub use writer::number_width;
 pub use writer::numbers_width;
 pub use writer::put_bytes;

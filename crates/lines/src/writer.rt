@@ -5,6 +5,7 @@ ghost use Prim.Native.Nat.{_≤_};
 ghost use lib.ListN.{length, take};
 ghost use Rattle.lines.specs.Decimal.{decimal};
 ghost use Rattle.lines.specs.LineText.{separatorOf, numbersText, lineText};
+ghost use Rattle.lines.specs.Append.{AppendIs};
 ghost use Rattle.lines.specs.Put.{writtenOf, front, PutIs};
 
 // What a writer answers: how many bytes it wrote; or the text did not fit.
@@ -214,4 +215,15 @@ pub fn put_number_line(out: &mut [u8], w: &[u8], v: u64) -> Put
             v: [v, 0, 0, 0, 0, 0],
         },
     )
+}
+
+// Writes a line of one number to place `at` of out and gives the place behind it, or writes nothing and gives `at` where it does not fit.
+pub fn append_number_line(out: &mut [u8], at: usize, w: &[u8], v: u64) -> usize
+    ensures { λ r. ⌜ AppendIs (lineText (now (w .entry)) (v ∷ [])) at (now (out .entry)) (now (out .exit)) r ⌝ }
+{
+    if out.len() < at {
+        return at;
+    }
+    let p = put_number_line(&mut out[at..], w, v);
+    at + written(p)
 }

@@ -14,7 +14,7 @@ ghost use lib.ListN.{length};
 // What is printed of a batch.
 fn found(programs: &[u8], trace: &[u8], report: &[u8]) -> Fields {
     let a = audit(programs, trace, report);
-    let mut out = [0u8; 14709];
+    let mut out = [0u8; 14763];
     let n = written(audit_text(programs, trace, report, &mut out));
     let end = end_of(&out, 0, n);
     Fields {

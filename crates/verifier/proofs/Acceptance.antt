@@ -1,9 +1,10 @@
 -- Verdicts 0 and 9 of texts: exactly where the texts are accepted, and exactly where their order returns to itself.
-use Prim.Native.Nat.{ℕ}
+use Prim.Native.Nat.{ℕ, _+_, _*_, _<_}
 use mathlib.Core.Bool.{false}
 use mathlib.Core.List.{List, [], _∷_}
 use mathlib.Core.Logic.{_↔_, _≢_}
 use mathlib.Core.Path.{_≡_, refl, sym, ap, _∙_, subst}
+use native.Mathlib.Omega.{arith}
 use lib.Dec.{eqb}
 use lib.ListN.{length}
 use Rattle.text.specs.Programs.{readPrograms, known}
@@ -26,6 +27,7 @@ use Rattle.verifier.specs.Accepts.{Accepts}
 use Rattle.verifier.specs.Faults.{checksOf, audited, auditedOf, auditOf}
 use Rattle.verifier.specs.Readings.{Readings}
 use Rattle.verifier.specs.Returns.{OrderReturns}
+use Rattle.verifier.specs.declared.Audited.{Audited}
 
 module _ (programs trace report : List ℕ) where
   -- the model's audit of what was read
@@ -106,10 +108,19 @@ module _ (programs trace report : List ℕ) where
 
 -- a refusal's counts
 refusal-counts : (v : Verdict) (requests operations : ℕ) → v .number ≢ 0 →
-    (audited v requests operations .requests ≡ 0) × (audited v requests operations .operations ≡ 0)
-refusal-counts v requests operations h = (rw (eqb-no h) refl, rw (eqb-no h) refl)
+    let a = audited v requests operations in
+    (a .requests ≡ 0) × (a .operations ≡ 0) × (a .blocks ≡ 0) × (a .rest ≡ 0)
+refusal-counts v requests operations h = (rw (eqb-no h) refl, rw (eqb-no h) refl, rw (eqb-no h) refl, rw (eqb-no h) refl)
 
-pub audit-refuses : (programs trace report : List ℕ) → auditOf programs trace report .verdict ≢ 0 →
-    (auditOf programs trace report .requests ≡ 0) × (auditOf programs trace report .operations ≡ 0)
-unfolding auditOf
-audit-refuses programs trace report h = refusal-counts (firstFault (checksOf (readPrograms programs) (readTrace trace) (readReport report))) _ _ h
+module _ (programs trace report : List ℕ) where
+  abbrev found : Audited
+  found = auditOf programs trace report
+
+  pub audit-refuses : found .verdict ≢ 0 → (found .requests ≡ 0) × (found .operations ≡ 0) × (found .blocks ≡ 0) × (found .rest ≡ 0)
+  unfolding auditOf
+  audit-refuses h = refusal-counts (firstFault (checksOf (readPrograms programs) (readTrace trace) (readReport report))) _ _ h
+
+  -- the operations are what they are charged by
+  pub audit-charges : (100 * found .blocks + found .rest ≡ found .operations) × (found .rest < 100)
+  unfolding auditOf
+  audit-charges = (omega arith, omega arith)

@@ -1,6 +1,6 @@
 -- What the audit comes to on three texts: theorems about `auditOf`, which is what `audit` gives for every input. Each is proved by one
 -- citation.
-use Prim.Native.Nat.{ℕ, _≤_}
+use Prim.Native.Nat.{ℕ, _+_, _*_, _<_, _≤_}
 use mathlib.Core.List.{List, [], _∷_, _++_}
 use mathlib.Core.Logic.{_↔_, _≢_}
 use mathlib.Core.Path.{_≡_, refl}
@@ -19,7 +19,7 @@ use Rattle.verifier.specs.Order.{orderOf, orderText}
 use Rattle.verifier.specs.OrderRead.{OrderRead}
 use Rattle.verifier.specs.Printed.{auditedText, printedText, mostOrder}
 use Rattle.verifier.specs.Returns.{OrderReturns}
-use Rattle.verifier.proofs.Acceptance.{audit-accepts, audit-returns, audit-refuses}
+use Rattle.verifier.proofs.Acceptance.{audit-accepts, audit-returns, audit-refuses, audit-charges}
 use Rattle.verifier.proofs.OrderRanges.{order-most}
 use Rattle.verifier.proofs.OrderReads.{order-read, order-none}
 
@@ -34,9 +34,16 @@ module _ (programs trace report : List ℕ) where
   meaning = refl
 
   -- A refusal's counts are 0.
-  pub refused : auditOf programs trace report .verdict ≢ 0 →
-      (auditOf programs trace report .requests ≡ 0) × (auditOf programs trace report .operations ≡ 0)
+  pub refused :
+      let a = auditOf programs trace report in
+      a .verdict ≢ 0 → (a .requests ≡ 0) × (a .operations ≡ 0) × (a .blocks ≡ 0) × (a .rest ≡ 0)
   refused = audit-refuses programs trace report
+
+  -- P2, the bill: blocks are the whole hundreds of the operations, and rest is what is left over, of a refusal and of no operations too.
+  pub bill :
+      let a = auditOf programs trace report in
+      (100 * a .blocks + a .rest ≡ a .operations) × (a .rest < 100)
+  bill = audit-charges programs trace report
 
   -- Demand 3: verdict 0 exactly when the texts are readable, keep the rules, and an order exists whose plain run gives every response, count
   -- and log.
@@ -47,12 +54,13 @@ module _ (programs trace report : List ℕ) where
   pub verdict-9 : (auditOf programs trace report .verdict ≡ 9) ↔ OrderReturns programs trace report
   verdict-9 = audit-returns programs trace report
 
-  -- What is printed: the four verdict lines, refused or not, and then the lines of the order.
+  -- What is printed: the six verdict lines, refused or not, and then the lines of the order.
   pub printed :
       let a = auditOf programs trace report in
       printedText programs trace report
       ≡ ((lineText (bytes "verdict=") (a .verdict ∷ []) ++ lineText (bytes "line=") (a .line ∷ []))
-      ++ (lineText (bytes "requests=") (a .requests ∷ []) ++ lineText (bytes "operations=") (a .operations ∷ [])))
+      ++ (lineText (bytes "requests=") (a .requests ∷ []) ++ (lineText (bytes "operations=") (a .operations ∷ [])
+      ++ (lineText (bytes "blocks=") (a .blocks ∷ []) ++ lineText (bytes "rest=") (a .rest ∷ [])))))
       ++ orderText 1 (orderOf programs trace report)
   unfolding printedText auditedText verdictText
   printed = refl

@@ -1,4 +1,4 @@
--- The printed lines: the verdict lines as three pieces, and the order behind them; and how long they are.
+-- The printed lines: the verdict lines as five pieces, and the order behind them; and how long they are.
 use Prim.Native.Nat.{ℕ, _+_, _/_, _<_, _≤_, min}
 use mathlib.Core.List.{List, [], _∷_, _++_, append-nil}
 use mathlib.Core.Path.{_≡_, sym, ap, subst, _∙_}
@@ -8,10 +8,11 @@ use Rattle.lines.specs.Bytes.{bytes}
 use Rattle.lines.specs.LineText.{numbersText, lineText}
 use Rattle.lines.specs.Put.{PutIs, writtenOf}
 use Rattle.lines.specs.declared.writer.Put.{Put}
-use Rattle.lines.proofs.LineTexts.{line-length}
+use Rattle.lines.proofs.LineTexts.{line-length, numbers-apart}
 use Rattle.lines.proofs.Puts.{put-done}
 use Rattle.writing.specs.Order.{itemsText}
 use Rattle.writing.specs.Verdict.{verdictText}
+use Rattle.writing.proofs.VerdictTexts.{verdict-length}
 use Rattle.model.specs.PlainRun.{Item}
 use Rattle.verifier.specs.Faults.{auditOf}
 use Rattle.verifier.specs.Order.{orderOf, orderNumbers, orderText}
@@ -21,21 +22,37 @@ use Rattle.verifier.proofs.OrderRanges.{order-few, order-numbered, orde
 use Rattle.verifier.proofs.OrderTexts.{numbers-length, order-lines}
 
 module _ (a : Audited) where
-  abbrev pub requestsLine : List ℕ
+  abbrev requestsLine : List ℕ
   requestsLine = lineText (bytes "requests=") (a .requests ∷ [])
 
-  abbrev pub operationsLine : List ℕ
+  abbrev operationsLine : List ℕ
   operationsLine = lineText (bytes "operations=") (a .operations ∷ [])
 
-  pub printed-pieces : auditedText a ≡ verdictText (a .verdict) (a .line) ++ (requestsLine ++ (operationsLine ++ []))
+  abbrev blocksLine : List ℕ
+  blocksLine = lineText (bytes "blocks=") (a .blocks ∷ [])
+
+  abbrev restLine : List ℕ
+  restLine = lineText (bytes "rest=") (a .rest ∷ [])
+
+  pub printed-pieces : auditedText a
+      ≡ verdictText (a .verdict) (a .line) ++ (requestsLine ++ (operationsLine ++ (blocksLine ++ (restLine ++ []))))
   unfolding auditedText
-  printed-pieces = ap (λ t. verdictText (a .verdict) (a .line) ++ (requestsLine ++ t)) (sym (append-nil operationsLine))
+  printed-pieces =
+      ap (λ t. verdictText (a .verdict) (a .line) ++ (requestsLine ++ (operationsLine ++ (blocksLine ++ t)))) (sym (append-nil restLine))
 
   pub printed-length : length (auditedText a)
-      ≡ 20 + length (verdictText (a .verdict) (a .line)) + length (numbersText (a .requests ∷ []))
-      + length (numbersText (a .operations ∷ []))
+      ≡ 45 + length (numbersText (a .verdict ∷ a .line ∷ a .requests ∷ a .operations ∷ a .blocks ∷ a .rest ∷ []))
   unfolding auditedText
-  printed-length = simp (length-append, line-length) (omega arith)
+  printed-length =
+      simp (length-append, line-length, verdict-length)
+      (omega (
+        arith,
+        numbers-apart (a .verdict) (a .line ∷ a .requests ∷ a .operations ∷ a .blocks ∷ a .rest ∷ []),
+        numbers-apart (a .line) (a .requests ∷ a .operations ∷ a .blocks ∷ a .rest ∷ []),
+        numbers-apart (a .requests) (a .operations ∷ a .blocks ∷ a .rest ∷ []),
+        numbers-apart (a .operations) (a .blocks ∷ a .rest ∷ []),
+        numbers-apart (a .blocks) (a .rest ∷ []),
+      ))
 
   -- so that no byte written says that nothing was
   pub printed-some : 0 < length (auditedText a)

@@ -17,9 +17,10 @@ use Rattle.writing.specs.Order.{eventItem, operationItem}
 use Rattle.writing.specs.Verdict.{verdictText}
 use Rattle.ordering.specs.Maps.{upd}
 use Rattle.ordering.specs.Merge.{bump}
+use Rattle.model.specs.Checks.{verdict}
 use Rattle.machine.specs.Instructions.{effectAs}
 use Rattle.machine.specs.Processes.{go}
-use Rattle.verifier.specs.Faults.{auditOf}
+use Rattle.verifier.specs.Faults.{audited, auditOf}
 use Rattle.verifier.specs.Order.{orderOf, orderText}
 use Rattle.verifier.specs.Printed.{auditedText, printedText}
 use Rattle.verifier.specs.declared.Audited.{Audited}
@@ -41,11 +42,13 @@ text (l ∷ ls) = bytes l ++ 10 ∷ text ls
 abbrev pub audits : Case → Audited
 audits c = auditOf (text (c .programLines)) (text (c .traceLines)) (text (c .reportLines))
 
+-- less than a hundred operations
 abbrev pub accepted : (requests operations : ℕ) → Audited
-accepted requests operations = record { verdict = 0; line = 0; requests = requests; operations = operations }
+accepted requests operations =
+    record { verdict = 0; line = 0; requests = requests; operations = operations; blocks = 0; rest = operations }
 
 abbrev pub refused : (verdict line : ℕ) → Audited
-refused verdict line = record { verdict = verdict; line = line; requests = 0; operations = 0 }
+refused verdict line = record { verdict = verdict; line = line; requests = 0; operations = 0; blocks = 0; rest = 0 }
 
 -- ── the worked batches ──
 abbrev pub programsABC : List String
@@ -93,6 +96,16 @@ unfolding auditOf readPrograms readTrace readReport readText readLines addLine l
     parts onto within count addProgram addDo addRequest addResponse addOf addLog go effectAs upd bump
 stars = refl
 
+-- ── the bill ──
+-- at 0, about the whole hundreds, and at most; of a refusal nothing
+bills : map (λ n. let a = audited (verdict 0 0) 1 n in (a .operations ∷ a .blocks ∷ a .rest ∷ [])) (0 ∷ 4 ∷ 99 ∷ 100 ∷ 101 ∷ 200 ∷ 1024 ∷ [])
+    ≡ (0 ∷ 0 ∷ 0 ∷ []) ∷ (4 ∷ 0 ∷ 4 ∷ []) ∷ (99 ∷ 0 ∷ 99 ∷ []) ∷ (100 ∷ 1 ∷ 0 ∷ []) ∷ (101 ∷ 1 ∷ 1 ∷ []) ∷ (200 ∷ 2 ∷ 0 ∷ [])
+    ∷ (1024 ∷ 10 ∷ 24 ∷ []) ∷ []
+bills = refl
+
+no-bill : map (λ n. audited (verdict 9 0) 1 n) (0 ∷ 99 ∷ 1024 ∷ []) ≡ refused 9 0 ∷ refused 9 0 ∷ refused 9 0 ∷ []
+no-bill = refl
+
 -- ── what is printed ──
 -- Request 1 gets object 1, where request 2 put before it; so behind operation 1 of request 2 both requests have an operation that waits for
 -- nothing. That of request 2 stands above in the report and goes first, though its request came later. Then its response may be printed too,
@@ -107,12 +120,12 @@ laterFirst =
 printed : map (λ c. printedText (text (c .programLines)) (text (c .traceLines)) (text (c .reportLines)))
     (caseC ∷ allEmpty ∷ valueChanged ∷ laterFirst ∷ [])
     ≡ text (
-    "verdict=0" ∷ "line=0" ∷ "requests=2" ∷ "operations=4"
+    "verdict=0" ∷ "line=0" ∷ "requests=2" ∷ "operations=4" ∷ "blocks=0" ∷ "rest=4"
     ∷ "event=1" ∷ "op=1,1" ∷ "event=2" ∷ "op=2,1" ∷ "op=2,2" ∷ "op=1,2" ∷ "event=3" ∷ "event=4" ∷ [])
-    ∷ text ("verdict=0" ∷ "line=0" ∷ "requests=0" ∷ "operations=0" ∷ [])
-    ∷ text ("verdict=10" ∷ "line=1" ∷ "requests=0" ∷ "operations=0" ∷ [])
+    ∷ text ("verdict=0" ∷ "line=0" ∷ "requests=0" ∷ "operations=0" ∷ "blocks=0" ∷ "rest=0" ∷ [])
+    ∷ text ("verdict=10" ∷ "line=1" ∷ "requests=0" ∷ "operations=0" ∷ "blocks=0" ∷ "rest=0" ∷ [])
     ∷ text (
-    "verdict=0" ∷ "line=0" ∷ "requests=2" ∷ "operations=3"
+    "verdict=0" ∷ "line=0" ∷ "requests=2" ∷ "operations=3" ∷ "blocks=0" ∷ "rest=3"
     ∷ "event=1" ∷ "event=2" ∷ "op=2,1" ∷ "op=2,2" ∷ "op=1,1" ∷ "event=3" ∷ "event=4" ∷ [])
     ∷ []
 unfolding auditOf readPrograms readTrace readReport readText readLines addLine lineOf fieldsOf fieldOf prefix numberOf digitsOf pushOf

@@ -1,5 +1,5 @@
 -- The audit of three texts: the rows of the scope's table in their order, the first fault, and the result.
-use Prim.Native.Nat.{ℕ}
+use Prim.Native.Nat.{ℕ, _/_, _%_}
 use mathlib.Core.Bool.{cond}
 use mathlib.Core.List.{List, [], _∷_, _++_}
 use lib.Dec.{eqb}
@@ -24,14 +24,21 @@ checksOf programs trace report =
     programChecks programs
     ++ (check 3 (badLine trace) ∷ from4 (machineOf table) atStart (known table) (contents [] trace) report)
 
--- a verdict with its counts, which are 0 on a refusal
+-- a count as it is shown with a verdict, which is 0 on a refusal
+abbrev pub shown : (verdict n : ℕ) → ℕ
+shown verdict n = cond (eqb verdict 0) n 0
+
+-- A verdict with its counts. The operations are charged by whole hundreds, and the rest is carried to the next bill.
 abbrev pub audited : Verdict → (requests operations : ℕ) → Audited
 audited v requests operations =
+    let n = shown (v .number) operations in
     record {
       verdict = v .number;
       line = v .line;
-      requests = cond (eqb (v .number) 0) requests 0;
-      operations = cond (eqb (v .number) 0) operations 0;
+      requests = shown (v .number) requests;
+      operations = n;
+      blocks = n / 100;
+      rest = n % 100;
     }
 
 abbrev pub auditedOf : Read (List Program) → Read (List Event) → Read Report → Audited

@@ -12,14 +12,16 @@ unfoldable pub auditedText : Audited → List ℕ
 auditedText a =
     verdictText (a .verdict) (a .line)
     ++ (lineText (bytes "requests=") (a .requests ∷ [])
-    ++ lineText (bytes "operations=") (a .operations ∷ []))
+    ++ (lineText (bytes "operations=") (a .operations ∷ [])
+    ++ (lineText (bytes "blocks=") (a .blocks ∷ [])
+    ++ lineText (bytes "rest=") (a .rest ∷ []))))
 
 unfoldable pub printedText : (programs trace report : List ℕ) → List ℕ
 printedText programs trace report = auditedText (auditOf programs trace report) ++ orderText 1 (orderOf programs trace report)
 
--- The most bytes of it. Verdict lines: words and line feeds have 37, and each of the four numbers at most 20 digits.
+-- The most bytes of it. Verdict lines: words and line feeds have 51, and each of the six numbers at most 20 digits.
 abbrev pub mostAudited : ℕ
-mostAudited = 117
+mostAudited = 171
 
 -- `op=65535,256` for each of 1,024 operations, and `event=128` for each of 128 events
 abbrev pub mostOrder : ℕ

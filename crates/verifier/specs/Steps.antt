@@ -87,7 +87,7 @@ reported ofs m logs n = batchOf [] (reportOf ofs m logs n)
 
 -- ── the audit from one text to the next ──
 abbrev pub refusal : (verdict line : ℕ) → Audited
-refusal verdict line = record { verdict = verdict; line = line; requests = 0; operations = 0 }
+refusal verdict line = record { verdict = verdict; line = line; requests = 0; operations = 0; blocks = 0; rest = 0 }
 
 -- what stands in the arrays
 abbrev pub eventsIn : List ℕ → ℕ → List Event

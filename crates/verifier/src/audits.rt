@@ -25,7 +25,7 @@ ghost use lib.ListN.{length};
 ghost use Rattle.lines.specs.Put.{PutIs};
 ghost use Rattle.model.specs.Checks.{verdict};
 ghost use Rattle.verifier.specs.Accepts.{Accepts};
-ghost use Rattle.verifier.specs.Faults.{audited, auditOf};
+ghost use Rattle.verifier.specs.Faults.{shown, audited, auditOf};
 ghost use Rattle.verifier.specs.Order.{orderOf, orderNumbers};
 ghost use Rattle.verifier.specs.OrderRead.{OrderRead};
 ghost use Rattle.verifier.specs.Steps.{refusal, eventsIn, ReportChecked, BatchChecked, noOrder};
@@ -39,26 +39,30 @@ fn refused(verdict: u64, line: usize) -> Audited
         line: line as u64,
         requests: 0,
         operations: 0,
+        blocks: 0,
+        rest: 0,
     }
+}
+
+// A count as it is shown, which is 0 on a refusal.
+fn shown_with(verdict: u64, n: usize) -> u64
+    ensures { λ r. ⌜ r ≡ shown verdict n ⌝ }
+{
+    if verdict == 0 { n as u64 } else { 0 }
 }
 
 // What rows 8 to 12 leave of a batch with these counts.
 fn result(f: Fault, requests: usize, operations: usize) -> Audited
     ensures { λ r. ⌜ r ≡ audited (verdict (f .row) (f .line)) requests operations ⌝ }
 {
-    if f.row != 0 {
-        return Audited {
-            verdict: f.row,
-            line: f.line,
-            requests: 0,
-            operations: 0,
-        };
-    }
+    let n = shown_with(f.row, operations);
     Audited {
         verdict: f.row,
         line: f.line,
-        requests: requests as u64,
-        operations: operations as u64,
+        requests: shown_with(f.row, requests),
+        operations: n,
+        blocks: n / 100,
+        rest: n % 100,
     }
 }
 

@@ -1,14 +1,14 @@
 // The audit as the lines that the program prints.
 use crate::Audited;
 use crate::audits::audit_order;
+use lines::Fields;
 use lines::Put;
-use lines::number_width;
-use lines::put_number_line;
+use lines::append_number_line;
+use lines::numbers_width;
 use lines::written;
 use writing::order_width;
 use writing::put_order;
 use writing::put_verdict;
-use writing::verdict_width;
 ghost use mathlib.Core.Path.{_≡_};
 ghost use mathlib.Core.List.{_++_};
 ghost use Prim.Native.Nat.{_≤_, min};
@@ -17,18 +17,26 @@ ghost use Rattle.lines.specs.Put.{PutIs};
 ghost use Rattle.writing.specs.Order.{itemsText};
 ghost use Rattle.verifier.specs.Printed.{auditedText, printedText, mostAudited, mostPrinted};
 
-// How long the four lines are; the words of the last two have 20 bytes.
+// How long the verdict lines are; their words have 45 bytes.
 fn audited_width(a: Audited) -> usize
     ensures { λ r. ⌜ r ≡ length (auditedText a) ⌝ }
     ensures { λ r. ⌜ r ≤ mostAudited ⌝ }
 {
-    let verdict = verdict_width(a.verdict, a.line);
-    let requests = number_width(a.requests);
-    let operations = number_width(a.operations);
-    20 + verdict + requests + operations
+    let numbers = Fields {
+        n: 6,
+        v: [
+            a.verdict,
+            a.line,
+            a.requests,
+            a.operations,
+            a.blocks,
+            a.rest,
+        ],
+    };
+    45 + numbers_width(numbers)
 }
 
-// Writes the four lines to the front of out, or nothing where out is too short.
+// Writes the verdict lines to the front of out, or nothing where out is too short.
 fn put_audited(a: Audited, out: &mut [u8]) -> Put
     ensures { λ r. ⌜ PutIs (auditedText a) (now (out .entry)) (now (out .exit)) r ⌝ }
 {
@@ -37,10 +45,11 @@ fn put_audited(a: Audited, out: &mut [u8]) -> Put
     }
     let v = put_verdict(out, a.verdict, a.line);
     let mut at = written(v);
-    let r = put_number_line(&mut out[at..], b"requests=", a.requests);
-    at += written(r);
-    let o = put_number_line(&mut out[at..], b"operations=", a.operations);
-    Put::Wrote(at + written(o))
+    at = append_number_line(out, at, b"requests=", a.requests);
+    at = append_number_line(out, at, b"operations=", a.operations);
+    at = append_number_line(out, at, b"blocks=", a.blocks);
+    at = append_number_line(out, at, b"rest=", a.rest);
+    Put::Wrote(at)
 }
 
 // Writes the verdict lines and the first n items of an order to the front of out, or nothing where out is too short.
@@ -57,7 +66,7 @@ fn put_printed(a: Audited, items: &[u64; 2304], n: usize, out: &mut [u8]) -> Put
     Put::Wrote(at + written(o))
 }
 
-// The audit of three texts as it is printed: its four lines and the order of an accepted batch to the front of out, or nothing where out is
+// The audit of three texts as it is printed: its verdict lines and the order of an accepted batch to the front of out, or nothing where out is
 // too short, which one of `mostPrinted` bytes never is.
 pub fn audit_text(programs: &[u8], trace: &[u8], report: &[u8], out: &mut [u8]) -> Put
     ensures printed { λ r. ⌜ PutIs (printedText (now (programs .entry)) (now (trace .entry)) (now (report .entry)))

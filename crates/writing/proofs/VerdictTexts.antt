@@ -17,10 +17,10 @@ number-most : {v : ℕ} → Fits w64 v → length (numbersText (v ∷ [])) ≤ 2
 number-most {v} f = omega (arith, number-length v, decimal-20 v (f .fits))
 
 module _ (verdict line : ℕ) where
-  abbrev pub line1 : List ℕ
+  abbrev line1 : List ℕ
   line1 = lineText (bytes "verdict=") (verdict ∷ [])
 
-  abbrev pub line2 : List ℕ
+  abbrev line2 : List ℕ
   line2 = lineText (bytes "line=") (line ∷ [])
 
   pub verdict-pieces : verdictText verdict line ≡ line1 ++ (line2 ++ [])

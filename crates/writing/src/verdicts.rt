@@ -1,8 +1,7 @@
 // The verdict with its line, which both programs print first.
 use lines::Put;
+use lines::append_number_line;
 use lines::number_width;
-use lines::put_number_line;
-use lines::written;
 ghost use mathlib.Core.Path.{_≡_};
 ghost use Prim.Native.Nat.{_≤_};
 ghost use lib.ListN.{length};
@@ -26,8 +25,7 @@ pub fn put_verdict(out: &mut [u8], verdict: u64, line: u64) -> Put
     if out.len() < verdict_width(verdict, line) {
         return Put::Short;
     }
-    let v = put_number_line(out, b"verdict=", verdict);
-    let at = written(v);
-    let l = put_number_line(&mut out[at..], b"line=", line);
-    Put::Wrote(at + written(l))
+    let mut at = append_number_line(out, 0, b"verdict=", verdict);
+    at = append_number_line(out, at, b"line=", line);
+    Put::Wrote(at)
 }

@@ -16,8 +16,8 @@ returns-2 c = (
 
 returns-3 : tie.Need-returns-3
 returns-3 c =
-    let f = c .before .before .fill-four .ensures in
-    let at-written = c .before .before .before .before .before .before in
+    let f = c .before .before .fill-audited .ensures in
+    let at-written = c .before .before .before .before .before in
     let at-audit-order = at-written .before .before .before .before in
     let r = at-audit-order .audit-order .ensures in (
       ordered _ _ _ _ _ _ (r .1 .0) _ (at-written .written .given .1) _ (r .0) (at-audit-order .before .before .if1 .left) _ f,

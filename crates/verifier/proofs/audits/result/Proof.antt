@@ -1,13 +1,10 @@
 -- `result` meets its contract.
-use borrow.Author.Tests.{eq-eqb, ne-eqb}
+use borrow.Author.Needs.{needs}
 use Rattle.verifier.proofs.audits.result.Statement.{statement}
 use Rattle.verifier.proofs.audits.result.Tie as tie
 
 returns : tie.Need-returns
-returns c = rw (ne-eqb _ _ (c .if1 .taken))
-
-returns-2 : tie.Need-returns-2
-returns-2 c = rw (eq-eqb _ _ (c .if1 .left))
+returns c = rw (c .before .shown-with .ensures, c .shown-with2 .ensures)
 
 pub result-spec : {M : Type 1} → statement M
-result-spec = tie.close (tie.spec returns returns-2)
+result-spec = tie.close (tie.spec (λ c κs. search needs) (λ c κs. search needs) returns)

@@ -7,22 +7,8 @@ use Rattle.verifier.proofs.printing.audited_width.Tie as tie
 
 returns : tie.Need-returns
 returns c =
-    omega (
-      arith,
-      printed-length (c .before .before .before .args .a),
-      c .before .before .verdict-width .ensures .0,
-      c .before .number-width .ensures .0,
-      c .number-width2 .ensures .0,
-    )
+    let w = c .numbers-width .ensures in
+    (omega (arith, printed-length (c .before .args .a), w .0), omega (arith, w .1))
 
 pub audited-width-spec : {M : Type 1} → statement M
-audited-width-spec =
-    tie.close
-    (tie.spec
-    (λ c κs. search needs)
-    (λ c κs. search needs)
-    (λ c κs. search needs)
-    (λ c. search needs)
-    (λ c. search needs)
-    (λ c. search needs)
-    returns)
+audited-width-spec = tie.close (tie.spec (λ c κs. search needs) (λ c. search needs) returns)
