@@ -29,6 +29,17 @@ const BILLS: [(usize, usize, usize, &str); 8] = [
     (1_024, 10, 24, "1024 operations (10 blocks, rest 24)"),
 ];
 
+/// Lines in the place of case C's bill that are none: one missing, both exchanged, not adding up, not in their one spelling.
+pub const WRONG_BILLS: [&str; 7] = [
+    "blocks=0\n",
+    "rest=4\n",
+    "rest=4\nblocks=0\n",
+    "blocks=4\nrest=0\n",
+    "blocks=0\nrest=5\n",
+    "blocks=1\nrest=4\n",
+    "blocks=0\nrest=04\n",
+];
+
 /// A batch of so many operations: requests with 32 of them each, and one with those that are left.
 fn batch_of(room: &Room, name: &str, operations: usize) -> PathBuf {
     let program = |number: usize, writes: usize| {

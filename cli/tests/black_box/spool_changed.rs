@@ -1,5 +1,6 @@
 //! Batches that fail, batches that change, and kept results that are damaged: none of them is ever accepted.
 
+use crate::bill::WRONG_BILLS;
 use crate::harness::{tests, Done};
 use crate::results::{check_all_kept, check_kept, kept, row, states};
 use crate::room::{copy_folder, example, names, names_in, read, tree, Room, TEXTS};
@@ -277,19 +278,13 @@ fn a_kept_result_whose_bill_is_damaged(room: &Room) -> Done {
     let (spool, results) = kept_spool(room);
     let whole = String::from_utf8(read(results.join("batches/batch-2/output"))).unwrap();
     let bill = |lines: &str| whole.replace("blocks=0\nrest=4\n", lines);
-    for output in [
+    let others = [
         format!("{EARLIEST}blocks=0\n"),
         format!("{EARLIEST}blocks=0\nrest=4\n"),
-        bill("blocks=0\n"),
-        bill("rest=4\n"),
-        bill("rest=4\nblocks=0\n"),
-        bill("blocks=4\nrest=0\n"),
-        bill("blocks=0\nrest=5\n"),
-        bill("blocks=1\nrest=4\n"),
-        bill("blocks=0\nrest=04\n"),
         bill("blocks=0\nrest=4\nblocks=0\nrest=4\n"),
         bill("blocks=18446744073709551615\nrest=4\n"),
-    ] {
+    ];
+    for output in WRONG_BILLS.map(bill).into_iter().chain(others) {
         fs::write(results.join("batches/batch-2/output"), output).unwrap();
         damaged(&spool, &results, "batch-2");
     }

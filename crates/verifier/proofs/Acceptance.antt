@@ -1,4 +1,5 @@
--- Verdicts 0 and 9 of texts: exactly where the texts are accepted, and exactly where their order returns to itself.
+-- Verdicts 0 and 9 of texts: exactly where the texts are accepted, and exactly where their order returns to itself. And the counts of a
+-- result: those of a refusal, and the bill.
 use Prim.Native.Nat.{ℕ, _+_, _*_, _<_}
 use mathlib.Core.Bool.{false}
 use mathlib.Core.List.{List, [], _∷_}
@@ -106,7 +107,7 @@ module _ (programs trace report : List ℕ) where
             nine .1 (a .texts, ap (λ v. v .number) (row-9 (machineOf table) atStart (known table) _ .1 (a .none-to-8, a .returns))),
       )
 
--- a refusal's counts
+-- ── the counts ──
 refusal-counts : (v : Verdict) (requests operations : ℕ) → v .number ≢ 0 →
     let a = audited v requests operations in
     (a .requests ≡ 0) × (a .operations ≡ 0) × (a .blocks ≡ 0) × (a .rest ≡ 0)
@@ -120,7 +121,7 @@ module _ (programs trace report : List ℕ) where
   unfolding auditOf
   audit-refuses h = refusal-counts (firstFault (checksOf (readPrograms programs) (readTrace trace) (readReport report))) _ _ h
 
-  -- the operations are what they are charged by
+  -- blocks and rest make up the operations
   pub audit-charges : (100 * found .blocks + found .rest ≡ found .operations) × (found .rest < 100)
   unfolding auditOf
   audit-charges = (omega arith, omega arith)
