@@ -5,6 +5,8 @@ use files::front;
 use files::read_file;
 use files::write_front;
 use lines::written;
+use verifier::PRINTED;
+use verifier::TEXT_ROOM;
 use verifier::audit_text;
 ghost use mathlib.Core.Path.{_≡_};
 ghost use lib.ListN.{length};
@@ -12,7 +14,7 @@ ghost use Rattle.lines.specs.Put.{front};
 ghost use Rattle.verifier.specs.Printed.{printedText, mostPrinted};
 
 // As much as is ever printed (`mostPrinted`).
-const ROOM: usize = 14763;
+const ROOM: usize = PRINTED;
 
 // What is printed, to the front of out, and how long it is. It has room whatever the texts are.
 fn fill(programs: &[u8], trace: &[u8], report: &[u8], out: &mut [u8; ROOM]) -> usize
@@ -32,9 +34,9 @@ fn print(programs: &[u8], trace: &[u8], report: &[u8]) {
 }
 
 fn main() {
-    let mut programs = [0u8; 65536];
-    let mut trace = [0u8; 65536];
-    let mut report = [0u8; 65536];
+    let mut programs = [0u8; TEXT_ROOM];
+    let mut trace = [0u8; TEXT_ROOM];
+    let mut report = [0u8; TEXT_ROOM];
     let Got::Bytes(p) = read_file(b"programs.txt", &mut programs) else {
         return;
     };

@@ -5,11 +5,11 @@ use mathlib.Core.Path.{_≡_, sym, ap, _∙_}
 use lib.Dec.{ltb}
 use lib.ListN.{length, getD, set}
 use borrow.Author.Tests.{ltb-true, ltb-false}
+use Rattle.basics.proofs.Tests.{clash, byBool}
 use Rattle.lines.specs.Put.{front, writtenOf, putOf, leftOf, PutIs}
 use Rattle.lines.specs.declared.writer.Put.{Put}
 use Rattle.lines.specs.declared.writer.Put.the-variants.{Wrote, Short}
 use Rattle.lines.proofs.Puts.{put-done, front-more}
-use Rattle.ordering.proofs.Basics.{clash, byBool}
 use Rattle.verifier.specs.declared.Audited.{Audited}
 use Rattle.export.specs.Numbers.{auditNumbers, ifBoth, OrderHanded}
 use Rattle.export.proofs.Rooms.{no-room, room}

@@ -7,10 +7,10 @@ use native.Mathlib.Omega.{arith}
 use lib.Dec.{ltb}
 use lib.ListN.{length}
 use borrow.Author.Tests.{ltb-true, ltb-false}
+use Rattle.basics.proofs.Tests.{byBool}
 use Rattle.lines.specs.Put.{writtenOf, PutIs}
 use Rattle.lines.specs.declared.writer.Put.{Put}
 use Rattle.lines.proofs.Puts.{put-short, put-done}
-use Rattle.ordering.proofs.Basics.{byBool}
 use Rattle.export.specs.Printed.{PrintedIs}
 
 -- of a text that is not empty no byte is written exactly where it does not fit

@@ -14,7 +14,7 @@ ghost use Rattle.verifier.specs.Order.{orderOf, orderNumbers};
 ghost use Rattle.verifier.specs.OrderRead.{OrderRead};
 ghost use Rattle.verifier.specs.Printed.{printedText};
 ghost use Rattle.host.specs.Accepted.{Accepted};
-ghost use Rattle.host.specs.Printed.{recordedText};
+ghost use Rattle.host.specs.Printed.{runPrinted};
 ghost use Rattle.host.specs.Recorded.{recordOf};
 ghost use Rattle.export.specs.Numbers.{ifRoom, handed, auditNumbers, recordFrom, RecordHanded, OrderHanded};
 ghost use Rattle.export.specs.Printed.{PrintedIs};
@@ -126,7 +126,7 @@ pub extern "C" fn teaselshears_record_text(
     out: &mut [u8],
 ) -> usize
     ensures { λ r. ⌜ PrintedIs
-        (recordedText (recordOf (now (programs .entry)) (now (schedule .entry)) 65535 65535))
+        (runPrinted (now (programs .entry)) (now (schedule .entry)))
         (now (out .entry)) (now (out .exit)) r ⌝ }
 {
     written(host::record_text(programs, schedule, out))

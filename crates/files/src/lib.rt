@@ -45,13 +45,18 @@ fn read_more(fd: i32, buf: &mut [u8], done: usize) -> Got
     Got::Bytes(done + io::count(got, rest))
 }
 
+// The most bytes of a buffer that is lent.
+pub const BUFFER_BYTES: usize = 262144;
+
+const TURNS: usize = BUFFER_BYTES + 1;
+
 // Reads until the buffer is full, the file ends or a read fails. A proved loop has to end, so it counts its turns down from a number that
-// no run uses up: each turn but the last reads a byte, and no buffer that is lent has more than 262,144.
+// no run uses up: each turn but the last reads a byte, and no buffer that is lent has more than BUFFER_BYTES.
 fn read_all(fd: i32, buf: &mut [u8]) -> Got
     ensures { λ r. ⌜ Fits r (now (buf .exit)) ⌝ }
 {
     let mut done: usize = 0;
-    let mut turns: usize = 262145;
+    let mut turns: usize = TURNS;
     while 0 < turns {
         let Got::Bytes(now) = read_more(fd, buf, done) else {
             return Got::Failed;

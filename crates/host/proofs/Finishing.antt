@@ -7,8 +7,12 @@ use native.Mathlib.Nat.{mod-eq-of-lt}
 use native.Mathlib.Omega.{arith}
 use lib.ListN.{length, getD}
 use borrow.Author.Tests.{lt-ltb}
+use Rattle.basics.specs.Lists.{All}
+use Rattle.basics.specs.Firsts.{firsts}
+use Rattle.basics.proofs.Firsts.{firsts-length, firsts-same}
+use Rattle.basics.proofs.Tests.{byBool}
 use Rattle.text.specs.Held.{eventAt, ofAt, entryAt}
-use Rattle.text.specs.Rows.{row, firsts}
+use Rattle.text.specs.Rows.{row}
 use Rattle.text.specs.declared.programs.Program.{Program}
 use Rattle.text.specs.declared.report.Entry.{Entry}
 use Rattle.text.specs.declared.report.Of.{Of}
@@ -16,12 +20,11 @@ use Rattle.text.specs.declared.schedule.Move.the-variants.{Arrive, Turn}
 use Rattle.text.specs.declared.schedule.Move.{Move}
 use Rattle.text.specs.declared.trace.Event.the-variants.{Request, Response}
 use Rattle.text.specs.declared.trace.Event.{Event}
-use Rattle.text.proofs.RowLaws.{firsts-length, firsts-same}
-use Rattle.ordering.specs.Lists.{All}
-use Rattle.ordering.proofs.Basics.{byBool}
 use Rattle.model.specs.FirstBad.{firstBad}
 use Rattle.model.specs.Host.{Host, isOpen, bad15, row15, ofsFrom, logsFrom, batchWritten}
 use Rattle.model.specs.PlainRun.{State, Phase, absent, opened, closed, operationsOf}
+use Rattle.replay.specs.Arrays.{Arrays, arrays}
+use Rattle.host.specs.Memory.{Memory}
 use Rattle.host.specs.Recorded.{textsOf}
 use Rattle.host.specs.Requests.{isOpenIn, standingIn, waitsIn}
 use Rattle.host.specs.Runs.{
@@ -167,18 +170,22 @@ logs-same f g h k (suc m) =
     λ i. e i ++ d i
 
 -- the texts of what the arrays hold are those of the batch
-module _ (table : List Program) (slots states ofs events logs sorted : List ℕ) (m t k l : ℕ) (h : Host (M table))
-    (g : RequestsIs table slots states ofs m k (h .state .phase) (h .trace)) (e : EventsIs events t (h .trace))
-    (x : LinesIs logs k (h .state .logs)) (y : Sorted logs k 16 sorted l) where
-  pub texts-are : heldTexts events t ofs m sorted l ≡ textsOf (batchWritten (M table) 16 h)
+module _ (table : List Program) (slots : List ℕ) (kept : Memory) (sorted : List ℕ) (l : ℕ) (h : Host (M table))
+    (g : RequestsIs table slots (kept .states) (kept .batch .ofs) (kept .batch .m) (kept .batch .n) (h .state .phase) (h .trace))
+    (e : EventsIs (kept .batch .events) (kept .batch .t) (h .trace)) (x : LinesIs (kept .batch .logs) (kept .batch .n) (h .state .logs))
+    (y : Sorted (kept .batch .logs) (kept .batch .n) 16 sorted l) where
+  open Arrays (kept .batch) using (events, t, ofs, m, logs, n)
+
+  pub texts-are : heldTexts (arrays (kept .batch .events) (kept .batch .t) (kept .batch .ofs) (kept .batch .m) sorted l)
+      ≡ textsOf (batchWritten (M table) 16 h)
   texts-are =
-      let few : l ≤ 1024 = omega (arith, y .count, lines-few (firsts (entryAt logs) k) 0 16, firsts-length (entryAt logs) k, x .few) in
+      let few : l ≤ 1024 = omega (arith, y .count, lines-few (firsts (entryAt logs) n) 0 16, firsts-length (entryAt logs) n, x .few) in
       let p : min t 128 ≡ t = omega (arith, e .few) in
       let q : min m 64 ≡ m = omega (arith, g .few) in
       let r : min l 1024 ≡ l = omega (arith, few) in
       let es : firsts (eventAt events) (min t 128) ≡ h .trace = ap (firsts (eventAt events)) p ∙ e .held in
       let os : firsts (ofAt ofs) (min m 64) ≡ ofsFrom (M table) (h .state .phase) 0 (h .trace) =
-      ap (firsts (ofAt ofs)) q ∙ ofs-are table slots states ofs m k (h .state) (h .trace) g in
+      ap (firsts (ofAt ofs)) q ∙ ofs-are table slots (kept .states) ofs m n (h .state) (h .trace) g in
       let ls : firsts (entryAt sorted) (min l 1024) ≡ logsFrom (h .state .logs) 0 16 =
-      ap (firsts (entryAt sorted)) r ∙ y .lines ∙ sym (logs-same (h .state .logs) (linesOf logs k) (x .held) 0 16) in
+      ap (firsts (entryAt sorted)) r ∙ y .lines ∙ sym (logs-same (h .state .logs) (linesOf logs n) (x .held) 0 16) in
       λ i. textsOf (record { trace = es i; ofs = os i; log = ls i })

@@ -5,10 +5,10 @@ use mathlib.Core.Path.{_≡_, refl}
 use borrow.Author.Tests.{lt-ltb, le-ltb}
 use lib.Dec.{ltb}
 use lib.ListN.{length}
+use Rattle.basics.proofs.Tests.{byBool}
 use Rattle.lines.specs.Put.{front, writtenOf, PutIs}
 use Rattle.lines.specs.declared.writer.Put.{Put}
 use Rattle.lines.proofs.Puts.{put-done}
-use Rattle.ordering.proofs.Basics.{byBool}
 use Rattle.model.specs.Host.{fault}
 use Rattle.host.specs.Recorded.{Texts, fitted, resultOf, RecordIs}
 use Rattle.host.specs.declared.Recorded.{Recorded}

@@ -6,6 +6,8 @@ pub mod Main
 mod Stars
 pub mod Readings
 pub mod Fronts
+pub mod ReadBack
+pub mod Numbering
 pub mod Acceptance
 pub mod PrintedTexts
 pub mod Fitting
@@ -16,9 +18,11 @@ pub mod Tables
 pub mod Promises
 pub mod Slots
 pub mod LogLines
-pub mod EventRows
 pub mod Running
 pub mod Arriving
 pub mod Turning
+pub mod Replying
+pub mod Operating
+pub mod Turned
 pub mod Finishing
 pub mod Recording

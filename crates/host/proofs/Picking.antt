@@ -1,5 +1,5 @@
 -- Laws of the log by object: the lines of one object join those of the objects before it.
-use Prim.Native.Nat.{ℕ, zero, suc, _+_, _*_, _≤_, _<_}
+use Prim.Native.Nat.{ℕ, zero, suc, _+_, _≤_, _<_}
 use mathlib.Core.List.{List, [], _∷_, _++_, append-assoc, append-nil}
 use mathlib.Core.Path.{_≡_, refl, sym, ap, subst, _∙_}
 use native.Mathlib.Numerals.{add-one}
@@ -7,12 +7,10 @@ use native.Mathlib.Omega.{arith}
 use lib.Dec.{eqb}
 use lib.ListN.{length, length-append}
 use borrow.Author.Tests.{eq-eqb, ne-eqb, eqb-true, eqb-false}
-use Rattle.text.specs.Held.{entryAt}
-use Rattle.text.specs.Report.{entryFrom}
-use Rattle.text.specs.Written.{entryNumbers}
-use Rattle.text.specs.Rows.{withRow, firsts}
-use Rattle.text.proofs.RowLaws.{row-room, rows-put}
-use Rattle.ordering.proofs.Basics.{byBool}
+use Rattle.basics.specs.Firsts.{firsts}
+use Rattle.basics.proofs.Tests.{byBool}
+use Rattle.text.specs.Held.{entryAt, withEntry}
+use Rattle.text.proofs.RowPuts.{entry-puts}
 use Rattle.model.specs.Batch.{logOf}
 use Rattle.model.proofs.Report.{log-append}
 use Rattle.host.specs.Steps.{linesOf, RoomFor, Picked}
@@ -60,17 +58,15 @@ module _ (logs : List ℕ) (object : ℕ) (out₀ : List ℕ) (at₀ : ℕ) wher
         )
 
     pub own-joins : at < 1024 → entryAt logs i .op .object ≡ object → (out′ : List ℕ) →
-        out′ ≡ withRow 6 out at (entryNumbers (entryAt logs i)) → Picked logs (i + 1) object out₀ at₀ out′ (at + 1)
-    unfolding entryAt
+        out′ ≡ withEntry out at (entryAt logs i) → Picked logs (i + 1) object out₀ at₀ out′ (at + 1)
     own-joins k e out′ d =
         let l = entryAt logs i in
-        let room : at * 6 + 6 ≤ length out = omega (arith, g .size) in
         record {
-          size = ap length d ∙ row-room 6 out at (entryNumbers l) refl room ∙ g .size;
+          size = ap length d ∙ entry-puts .room out at l (g .size);
           count = omega (arith, g .count, ap length (more-own logs object i e), length-append (linesOf logs i object) (l ∷ []));
           lines =
               ap (λ o. firsts (entryAt o) (at + 1)) d
-              ∙ rows-put 6 out at (entryNumbers l) refl room entryFrom 1024 k
+              ∙ entry-puts .more out at l (g .size) k
               ∙ ap (λ ls. ls ++ l ∷ []) (g .lines)
               ∙ append-assoc (firsts (entryAt out₀) at₀) (linesOf logs i object) (l ∷ [])
               ∙ ap (λ ls. firsts (entryAt out₀) at₀ ++ ls) (sym (more-own logs object i e));

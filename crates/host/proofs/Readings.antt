@@ -1,33 +1,27 @@
 -- What readable programs and a readable schedule hold is in the ranges of its fields.
-use Prim.Native.Nat.{ℕ, suc, zero, _+_, _%_, _≤_, _<_}
+use Prim.Native.Nat.{ℕ, _%_, _≤_, _<_}
 use mathlib.Core.List.{List, [], _∷_, _++_}
 use mathlib.Core.Option.{Option, none, some}
-use mathlib.Core.Path.{_≡_, refl, ap, subst}
+use mathlib.Core.Path.{_≡_, refl, subst}
 use native.Mathlib.Omega.{arith}
 use lib.ListN.{length, getD}
+use Rattle.basics.specs.Lists.{All}
+use Rattle.basics.specs.Count.{count}
+use Rattle.basics.proofs.Lists.{all-append, count-append, all-getD}
+use Rattle.basics.proofs.Tests.{clash}
 use Rattle.lines.specs.Line.{InRanges, any}
 use Rattle.text.specs.Formats.{doLine, programLine, arriveLine, turnLine}
 use Rattle.text.specs.Programs.{noProgram, instrFrom, begun, withInstr, inFrontOf, addProgram, addDo, programKinds, readPrograms}
 use Rattle.text.specs.Schedule.{arriveFrom, turnFrom, isArrive, addArrive, addTurn, scheduleKinds, readSchedule}
-use Rattle.text.specs.Text.{readable, count}
+use Rattle.text.specs.Text.{readable}
 use Rattle.text.specs.declared.programs.Instr.{Instr}
 use Rattle.text.specs.declared.programs.Program.{Program}
 use Rattle.text.specs.declared.schedule.Move.the-variants.{Arrive, Turn}
 use Rattle.text.specs.declared.schedule.Move.{Move}
 use Rattle.text.proofs.Ranges.{Keeps, text-keeps, within-some, range-at}
-use Rattle.ordering.specs.Lists.{All}
-use Rattle.ordering.proofs.Basics.{clash}
-use Rattle.ordering.proofs.Lists.{all-append}
-use Rattle.model.specs.Ranges.{arrivalsIn}
 use Rattle.machine.specs.Instance.{codeAt}
 use Rattle.machine.specs.Processes.{instrAt}
 use Rattle.machine.proofs.Bounds.{Word}
-
--- what holds of all items holds at each place, past the end of the default
-all-getD : {A : Type 0} (P : A → Type 0) (d : A) → P d → (xs : List A) → All P xs → (i : ℕ) → P (getD xs i d)
-all-getD P d h [] g i = h
-all-getD P d h (x ∷ xs) g zero = g .0
-all-getD P d h (x ∷ xs) g (suc i) = all-getD P d h xs (g .1) i
 
 -- ── the programs: a constant is a number of 64 bits ──
 abbrev WordInstr : Instr → Type 0
@@ -73,18 +67,7 @@ MoveIn (Turn r) = Unit {0}
 
 pub record ScheduleIn (ms : List Move) : Type 0 where
   pub moves : All MoveIn ms
-  pub few : arrivalsIn ms ≤ 64
-
-arrivals-append : (ms ns : List Move) → arrivalsIn (ms ++ ns) ≡ arrivalsIn ms + arrivalsIn ns
-arrivals-append [] ns = omega arith
-arrivals-append (Arrive r prog a b ∷ ms) ns = omega (arith, arrivals-append ms ns)
-arrivals-append (Turn r ∷ ms) ns = arrivals-append ms ns
-
-arrivals-count : (ms : List Move) → count isArrive ms ≡ arrivalsIn ms
-unfolding count
-arrivals-count [] = refl
-arrivals-count (Arrive r prog a b ∷ ms) = ap suc (arrivals-count ms)
-arrivals-count (Turn r ∷ ms) = arrivals-count ms
+  pub few : count isArrive ms ≤ 64
 
 arrive-keeps : Keeps ScheduleIn (record { format = arriveLine; add = addArrive })
 unfolding addArrive
@@ -98,7 +81,7 @@ arrive-keeps ms ns vs g h e =
     subst ScheduleIn (w .1)
     (record {
       moves = all-append MoveIn ms (arriveFrom vs ∷ []) (g .moves) ((r, (prog, (a, b))), tt);
-      few = omega (arith, w .0, arrivals-count ms, arrivals-append ms (arriveFrom vs ∷ []));
+      few = omega (arith, w .0, count-append isArrive ms (arriveFrom vs ∷ []));
     })
 
 turn-keeps : Keeps ScheduleIn (record { format = turnLine; add = addTurn })
@@ -108,7 +91,7 @@ turn-keeps ms ns vs g h e =
     subst ScheduleIn z
     (record {
       moves = all-append MoveIn ms (turnFrom vs ∷ []) (g .moves) (tt, tt);
-      few = omega (arith, g .few, arrivals-append ms (turnFrom vs ∷ []));
+      few = omega (arith, g .few, count-append isArrive ms (turnFrom vs ∷ []));
     })
 
 pub schedule-in : (s : List ℕ) (ms : List Move) → readSchedule s ≡ readable ms → ScheduleIn ms

@@ -6,10 +6,11 @@ use mathlib.Core.Option.{Option}
 use mathlib.Core.Path.{_≡_, refl, sym, ap, subst, _∙_}
 use native.Mathlib.Omega.{arith}
 use lib.ListN.{length, replicate}
+use Rattle.basics.specs.Lists.{All}
+use Rattle.basics.specs.Firsts.{firsts}
 use Rattle.lines.specs.Put.{front}
 use Rattle.text.specs.Held.{linesIn, readIn, moveAt, programAt, programsIn, ProgramsIs, ScheduleIs, tableIn}
 use Rattle.text.specs.Programs.{readPrograms}
-use Rattle.text.specs.Rows.{firsts}
 use Rattle.text.specs.Schedule.{readSchedule}
 use Rattle.text.specs.Text.{Read, readable, unreadable}
 use Rattle.text.specs.declared.kinds.Lines.the-variants.{Readable, Unreadable}
@@ -19,16 +20,21 @@ use Rattle.text.specs.declared.programs.Programs.{Programs}
 use Rattle.text.specs.declared.schedule.Move.the-variants.{Arrive, Turn}
 use Rattle.text.specs.declared.schedule.Move.{Move}
 use Rattle.text.proofs.ProgramsReading.{table-read}
-use Rattle.ordering.specs.Lists.{All}
 use Rattle.model.specs.Batch.{Batch}
 use Rattle.model.specs.Checks.{faultOr, badLine, contents}
 use Rattle.model.specs.FirstBad.{firstBad}
 use Rattle.model.specs.Host.{Result, fault, made, close, batchWritten, andThen}
 use Rattle.model.proofs.Scans.{holds, passes}
+use Rattle.machine.specs.Held.{objects}
+use Rattle.machine.specs.Objects.{Content, atStart}
 use Rattle.machine.specs.Rules.{brokenLine, row2}
 use Rattle.machine.specs.declared.rules.Ruling.the-variants.{Kept, Broken}
 use Rattle.machine.specs.declared.rules.Ruling.{Ruling}
-use Rattle.machine.proofs.Rulings.{broken, kept}
+use Rattle.machine.proofs.Performing.{objects-start}
+use Rattle.machine.proofs.Rulings.{broken}
+use Rattle.machine.proofs.Rulings as rulings
+use Rattle.replay.specs.Arrays.{arrays}
+use Rattle.host.specs.Memory.{Memory}
 use Rattle.host.specs.Accepted.{Accepted}
 use Rattle.host.specs.Recorded.{runOf, batchFrom, batchRecorded, Texts, textsOf, fitted, recordOf, resultOf, RecordIs}
 use Rattle.host.specs.Runs.{leftOpen, M, RidIn, movesIn, ran, recordedMoves, Scheduled, Ready, Finished, RunIs}
@@ -50,55 +56,68 @@ unfolding front
 refuses x o p verdict line r e d = rw e (record { result = d; traceBytes = refl; reportBytes = refl })
 
 -- ── rows 14 to 16 ──
-pub ready : (moves arrivals : List ℕ) (n : ℕ) (slots states ofs events logs : List ℕ) → Scheduled moves arrivals n →
-    slots ≡ replicate 65536 0 → length states ≡ 768 → length ofs ≡ 192 → length events ≡ 640 → length logs ≡ 6144 →
-    Ready moves arrivals n slots states ofs events logs
-ready moves arrivals n slots states ofs events logs s a b c d e =
-    record { scheduled = s; slotsBlank = a; statesRoom = b; ofsRoom = c; eventsRoom = d; logsRoom = e }
+-- the objects at the start are all 0, and no cell is used
+pub ready : (moves arrivals : List ℕ) (n : ℕ) (slots states ofs events logs cells : List ℕ) → Scheduled moves arrivals n →
+    slots ≡ replicate 65536 0 → length states ≡ 768 → length ofs ≡ 192 → length events ≡ 640 → length logs ≡ 6144 → length cells ≡ 8192 →
+    Ready moves arrivals n slots states ofs events logs (objects (replicate 8 0) cells (replicate 1016 0) 0)
+ready moves arrivals n slots states ofs events logs cells s a b c d e f =
+    record {
+      scheduled = s;
+      slotsBlank = a;
+      statesRoom = b;
+      ofsRoom = c;
+      eventsRoom = d;
+      logsRoom = e;
+      opening = atStart;
+      held = objects-start cells f;
+      fewCells = omega arith;
+    }
 
-module _ (table : List Program) (moves arrivals : List ℕ) (n : ℕ) where
+module _ (opening : ℕ → Content) (table : List Program) (moves arrivals : List ℕ) (n : ℕ) where
   abbrev moved : List Move
   moved = movesIn moves arrivals n
 
-  module _ (u v : ℕ) (slots states ofs events logs : List ℕ) (x : Run)
-      (f : RunIs table moves arrivals n slots states ofs events logs x) where
-    pub at-14 : (line : ℕ) → x ≡ Breaks line → recordedMoves table moved u v ≡ fault 14 line
+  module _ (u v : ℕ) (slots : List ℕ) (after : Counts → Memory) (x : Run) (f : RunIs opening table moves arrivals n slots after x) where
+    pub at-14 : (line : ℕ) → x ≡ Breaks line → recordedMoves opening table moved u v ≡ fault 14 line
     unfolding RunIs
     at-14 line e =
-        let d : ran table moved ≡ fault 14 line = subst (RunIs table moves arrivals n slots states ofs events logs) e f in
+        let d : ran opening table moved ≡ fault 14 line = subst (RunIs opening table moves arrivals n slots after) e f in
         ap (λ z. andThen (andThen z (close (M table) 16 moved)) (λ b. fitted u v (textsOf b))) d
 
     module _ (c : Counts) (e : x ≡ Ends c) where
-      finished : Finished table moves arrivals n slots states ofs events logs c
-      unfolding RunIs
-      finished = subst (RunIs table moves arrivals n slots states ofs events logs) e f
+      abbrev kept : Memory
+      kept = after c
 
-      pub few-lines : c .operations ≤ 1024
+      finished : Finished opening table moves arrivals n slots kept
+      unfolding RunIs
+      finished = subst (RunIs opening table moves arrivals n slots after) e f
+
+      pub few-lines : after c .batch .n ≤ 1024
       few-lines = finished .lines .few
 
       abbrev closes : Option ℕ → Result Texts
       closes o = andThen (faultOr fault 15 o (made (batchWritten (M table) 16 (finished .host)))) (λ b. fitted u v (textsOf b))
 
-      closing : (s : Scheduled moves arrivals n) → (o : Option ℕ) → o ≡ firstBad (leftOpen slots states) 1 [] moved →
-          recordedMoves table moved u v ≡ closes o
+      closing : (s : Scheduled moves arrivals n) → (o : Option ℕ) → o ≡ firstBad (leftOpen slots (kept .states)) 1 [] moved →
+          recordedMoves opening table moved u v ≡ closes o
       closing s o d =
           let w = finished in
-          let z = row15-is table slots states ofs (c .requests) (c .operations) (w .host .state) (w .host .trace) (w .requests) moved
-          (s .rids) in
+          let z = row15-is table slots (kept .states) (kept .batch .ofs) (kept .batch .m) (kept .batch .n) (w .host .state) (w .host .trace)
+          (w .requests) moved (s .rids) in
           ap (λ z. andThen (andThen z (close (M table) 16 moved)) (λ b. fitted u v (textsOf b))) (w .made-it)
           ∙ ap closes (z ∙ sym d)
 
-      module _ (s : Scheduled moves arrivals n) (y : Ruling) (d : brokenLine y ≡ firstBad (leftOpen slots states) 1 [] moved) where
-        pub at-15 : (line : ℕ) → y ≡ Broken line → recordedMoves table moved u v ≡ fault 15 line
+      module _ (s : Scheduled moves arrivals n) (y : Ruling) (d : brokenLine y ≡ firstBad (leftOpen slots (kept .states)) 1 [] moved) where
+        pub at-15 : (line : ℕ) → y ≡ Broken line → recordedMoves opening table moved u v ≡ fault 15 line
         at-15 line k = closing s (brokenLine y) d ∙ ap (λ y. closes (brokenLine y)) k
 
-        pub past-15 : y ≡ Kept → (sorted : List ℕ) (l : ℕ) → Sorted logs (c .operations) 16 sorted l →
-            recordedMoves table moved u v ≡ fitted u v (heldTexts events (c .events) ofs (c .requests) sorted l)
+        pub past-15 : y ≡ Kept → (sorted : List ℕ) (l : ℕ) → Sorted (after c .batch .logs) (after c .batch .n) 16 sorted l →
+            recordedMoves opening table moved u v
+            ≡ fitted u v (heldTexts (arrays (after c .batch .events) (after c .batch .t) (after c .batch .ofs) (after c .batch .m) sorted l))
         past-15 k sorted l z =
             let w = finished in
             closing s (brokenLine y) d ∙ ap (λ y. closes (brokenLine y)) k
-            ∙ ap (fitted u v) (sym (texts-are table slots states ofs events logs sorted (c .requests) (c .events) (c .operations) l
-            (w .host) (w .requests) (w .events-held) (w .lines) z))
+            ∙ ap (fitted u v) (sym (texts-are table slots kept sorted l (w .host) (w .requests) (w .events-held) (w .lines) z))
 
 pub record-as : (x y : Result Texts) (o p o′ p′ : List ℕ) (r : Recorded) → x ≡ y → RecordIs y o p o′ p′ r → RecordIs x o p o′ p′ r
 record-as x y o p o′ p′ r e h = rw e h
@@ -115,7 +134,7 @@ module _ (s schedule : List ℕ) (u v : ℕ) (ps : Programs) (h : ProgramsIs s p
   fit x = andThen x (λ b. fitted u v (textsOf b))
 
   abbrev fromRead : Read (List Program) → Read (List Move) → Result Texts
-  fromRead programs moves = fit (batchFrom programs moves)
+  fromRead programs moves = fit (batchFrom atStart programs moves)
 
   pub at-1 : ps .ok ≡ false → recordOf s schedule u v ≡ fault 1 (ps .line)
   unfolding recordOf batchRecorded programsIn
@@ -143,9 +162,9 @@ module _ (s schedule : List ℕ) (u v : ℕ) (ps : Programs) (h : ProgramsIs s p
       module _ (k : r ≡ Kept) (l : Lines) (moves arrivals : List ℕ) (g : ScheduleIs schedule l moves arrivals) where
         -- rows 1 and 2 do not hold
         past-2 : (m : Read (List Move)) → m ≡ readSchedule schedule →
-            fit (faultOr fault 13 (badLine m) (runOf table (contents [] m))) ≡ recordOf s schedule u v
+            fit (faultOr fault 13 (badLine m) (runOf atStart table (contents [] m))) ≡ recordOf s schedule u v
         past-2 m e =
-            ap fit (passes fault 2 (row2 table) (faultOr fault 13 (badLine m) (runOf table (contents [] m))) (kept r (row2 table) rules k))
+            ap fit (passes fault 2 (row2 table) (faultOr fault 13 (badLine m) (runOf atStart table (contents [] m))) (rulings.kept r (row2 table) rules k))
             ∙ ap (fromRead (readable table)) e
             ∙ programs-read
 
@@ -159,10 +178,10 @@ module _ (s schedule : List ℕ) (u v : ℕ) (ps : Programs) (h : ProgramsIs s p
           moves-read = sym (g .read) ∙ ap (readIn (moveAt moves arrivals)) d
 
           pub past-13 : (laid : Table) → Laid ps laid →
-              recordOf s schedule u v ≡ recordedMoves (programsOf laid (ps .n)) (movesIn moves arrivals n) u v
+              recordOf s schedule u v ≡ recordedMoves atStart (programsOf laid (ps .n)) (movesIn moves arrivals n) u v
           past-13 laid w =
               sym (past-2 (readable (movesIn moves arrivals n)) (sym moves-read))
-              ∙ recorded-same ps laid (h .few) (h .bounded) w (movesIn moves arrivals n) u v
+              ∙ recorded-same atStart ps laid (h .few) (h .bounded) w (movesIn moves arrivals n) u v
 
           pub scheduled : Scheduled moves arrivals n
           scheduled =

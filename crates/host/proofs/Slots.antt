@@ -3,44 +3,29 @@ use Prim.Native.Nat.{ℕ, zero, suc, _+_, _*_, _≤_, _<_}
 use mathlib.Core.Bool.{true, false}
 use mathlib.Core.List.{List, [], _∷_, _++_}
 use mathlib.Core.Path.{_≡_, refl, sym, ap, subst, _∙_}
-use native.Mathlib.Nat.{mod-eq-of-lt}
 use native.Mathlib.Omega.{arith}
 use lib.ListN.{length, getD, set, length-set}
 use lib.Seq.{getD-set-same, getD-set-other}
+use Rattle.basics.specs.Firsts.{firsts}
+use Rattle.basics.specs.Maps.{upd}
+use Rattle.basics.proofs.Firsts.{firsts-same, firsts-more}
+use Rattle.basics.proofs.Maps.{upd-at, upd-other}
+use Rattle.basics.proofs.Tests.{clash, byEq}
 use Rattle.lines.specs.Place.{cells}
-use Rattle.text.specs.Held.{ofAt}
-use Rattle.text.specs.Report.{ofFrom}
-use Rattle.text.specs.Rows.{row, withRow, firsts}
+use Rattle.text.specs.Held.{ofAt, withOf}
+use Rattle.text.specs.Rows.{row, withRow}
 use Rattle.text.specs.declared.programs.Program.{Program}
+use Rattle.text.specs.declared.report.Of.{Of}
 use Rattle.text.specs.declared.trace.Event.the-variants.{Request, Response}
 use Rattle.text.specs.declared.trace.Event.{Event}
-use Rattle.text.proofs.RowLaws.{row-room, row-put, row-other, firsts-same, firsts-more}
-use Rattle.ordering.specs.Maps.{upd}
-use Rattle.ordering.proofs.Basics.{clash, byEq, upd-at, upd-other}
+use Rattle.text.proofs.RowLaws.{row-room, row-put, row-other}
+use Rattle.text.proofs.RowPuts.{of-puts}
 use Rattle.model.specs.PlainRun.{Phase, absent, opened, closed}
 use Rattle.machine.specs.Instance.{Process}
 use Rattle.machine.specs.Processes.{firstLocals}
-use Rattle.host.specs.Moves.{progress}
+use Rattle.host.specs.Moves.{progress, ofLine}
 use Rattle.host.specs.Requests.{stateNumbers, isOpenIn, progressIn, localsIn}
 use Rattle.host.specs.Runs.{missing, going, over, seenRow, seenSlot, ridsOf, RowIs, M, seen, RequestsIs}
-
--- ── `of` rows ──
-of-row : (ofs : List ℕ) (s : ℕ) → s < 64 → ofAt ofs s ≡ ofFrom (row 3 ofs s)
-unfolding ofAt
-of-row ofs s h = ap (λ i. ofFrom (row 3 ofs i)) (mod-eq-of-lt h)
-
-module _ (ofs : List ℕ) (s rid group count : ℕ) (h : s < 64) (room : length ofs ≡ 192) where
-  abbrev numbers : List ℕ
-  numbers = rid ∷ group ∷ count ∷ []
-
-  pub of-put : ofAt (withRow 3 ofs s numbers) s ≡ record { rid = rid; group = group; count = count }
-  of-put = of-row (withRow 3 ofs s numbers) s h ∙ ap ofFrom (row-put 3 ofs s numbers refl (omega (arith, room)))
-
-  of-other : (q : ℕ) → q < 64 → (q ≡ s → ⊥) → ofAt (withRow 3 ofs s numbers) q ≡ ofAt ofs q
-  of-other q k n =
-      of-row (withRow 3 ofs s numbers) q k
-      ∙ ap ofFrom (row-other 3 ofs s numbers refl (omega (arith, room)) q n)
-      ∙ sym (of-row ofs q k)
 
 -- ── only slot s changes ──
 pub record Changed (states ofs states′ ofs′ : List ℕ) (s : ℕ) : Type 0 where
@@ -67,13 +52,13 @@ module _ (states ofs : List ℕ) (s : ℕ) (h : s < 64) (statesRoom : length sta
         own = λ q k n. refl;
       }
 
-  pub both-changed : (rid group count : ℕ) → Changed states ofs (withRow 12 states s v) (withRow 3 ofs s (rid ∷ group ∷ count ∷ [])) s
-  both-changed rid group count =
+  pub both-changed : (x : Of) → Changed states ofs (withRow 12 states s v) (withOf ofs s x) s
+  both-changed x =
       record {
         statesRoom = row-room 12 states s v l room ∙ statesRoom;
-        ofsRoom = row-room 3 ofs s (rid ∷ group ∷ count ∷ []) refl (omega (arith, ofsRoom)) ∙ ofsRoom;
+        ofsRoom = of-puts .room ofs s x ofsRoom;
         state = λ q n. row-other 12 states s v l room q n;
-        own = of-other ofs s rid group count h ofsRoom;
+        own = λ q k n. of-puts .other ofs s q x ofsRoom (λ e. n (omega (arith, e, k, h)));
       }
 
 module _ (states ofs states′ ofs′ : List ℕ) (s : ℕ) (c : Changed states ofs states′ ofs′ s) where
@@ -157,16 +142,16 @@ module _ (table : List Program) where
       states′ = withRow 12 states m opening
 
       abbrev ofs′ : List ℕ
-      ofs′ = withRow 3 ofs m (r ∷ m ∷ 0 ∷ [])
+      ofs′ = withOf ofs m (ofLine r m 0)
 
       abbrev next : Phase (M table)
       next = opened (M table .start prog a b) 0
 
       c : Changed states ofs states′ ofs′ m
-      c = both-changed states ofs m h (g .statesRoom) (g .ofsRoom) opening refl r m 0
+      c = both-changed states ofs m h (g .statesRoom) (g .ofsRoom) opening refl (ofLine r m 0)
 
-      own : ofAt ofs′ m ≡ record { rid = r; group = m; count = 0 }
-      own = of-put ofs m r m 0 h (g .ofsRoom)
+      own : ofAt ofs′ m ≡ ofLine r m 0
+      own = of-puts .same ofs m (ofLine r m 0) (g .ofsRoom)
 
       state : row 12 states′ m ≡ opening
       state = state-put states ofs m h (g .statesRoom) (g .ofsRoom) opening refl

@@ -6,11 +6,11 @@ use native.Mathlib.Numerals.{add-one}
 use native.Mathlib.Omega.{arith}
 use lib.ListN.{length, length-append}
 use borrow.Author.Tests.{ne-eqb}
+use Rattle.basics.specs.Firsts.{firsts}
+use Rattle.basics.proofs.Firsts.{firsts-length}
+use Rattle.basics.proofs.Tests.{byEq}
 use Rattle.text.specs.Held.{entryAt}
-use Rattle.text.specs.Rows.{firsts}
 use Rattle.text.specs.declared.report.Entry.{Entry}
-use Rattle.text.proofs.RowLaws.{firsts-length}
-use Rattle.ordering.proofs.Basics.{byEq}
 use Rattle.model.specs.Batch.{logOf}
 use Rattle.model.specs.Host.{logsFrom}
 use Rattle.host.specs.Steps.{linesOf, RoomFor, Picked, Sorted}

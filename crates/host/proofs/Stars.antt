@@ -4,6 +4,7 @@ use Prim.Native.Nat.{ℕ, zero, suc}
 use Prim.Native.String.{String}
 use mathlib.Core.List.{List, [], _∷_, _++_, map}
 use mathlib.Core.Path.{_≡_, refl}
+use Rattle.basics.specs.Maps.{upd}
 use Rattle.lines.specs.Decimal.{digitsIn, decimal}
 use Rattle.lines.specs.Line.{prefix, fieldOf, fieldsOf, lineOf}
 use Rattle.lines.specs.LineText.{separatorOf, numbersText, lineText}
@@ -13,10 +14,9 @@ use Rattle.text.specs.Programs.{addProgram, addDo, readPrograms}
 use Rattle.text.specs.Report.{addOf, addLog, readReport}
 use Rattle.text.specs.Written.{ofText, entryText, reportText, linesText, eventText, traceText}
 use Rattle.text.specs.Schedule.{addArrive, addTurn, readSchedule}
-use Rattle.text.specs.Text.{within, count, addLine, readLines, readText}
+use Rattle.text.specs.Text.{within, addLine, readLines, readText}
 use Rattle.text.specs.Trace.{addRequest, addResponse, readTrace}
 use Rattle.writing.specs.Verdict.{verdictText}
-use Rattle.ordering.specs.Maps.{upd}
 use Rattle.ordering.specs.Merge.{bump}
 use Rattle.model.specs.Host.{Result, fault, made}
 use Rattle.machine.specs.Instructions.{effectAs}
@@ -92,7 +92,7 @@ table = map batch audit.cases ++ map run cases
 
 stars : map meaningOf table ≡ map expected table
 unfolding auditOf recordOf batchRecorded readPrograms readTrace readReport readSchedule readText readLines addLine lineOf fieldsOf fieldOf prefix
-    numberOf digitsOf pushOf parts onto within count addProgram addDo addRequest addResponse addOf addLog addArrive addTurn go effectAs
+    numberOf digitsOf pushOf parts onto within addProgram addDo addRequest addResponse addOf addLog addArrive addTurn go effectAs
     upd bump traceText reportText linesText eventText ofText entryText lineText numbersText separatorOf decimal digitsIn
 stars = refl
 
@@ -127,7 +127,7 @@ small =
 
 rows-13-to-16 : map records small ≡ map (λ c. c .writes) small
 unfolding recordOf batchRecorded readPrograms readSchedule readText readLines addLine lineOf fieldsOf fieldOf prefix numberOf digitsOf pushOf
-    parts onto within count addProgram addDo addArrive addTurn go effectAs upd
+    parts onto within addProgram addDo addArrive addTurn go effectAs upd
     traceText reportText linesText eventText ofText entryText lineText numbersText separatorOf decimal digitsIn
 rows-13-to-16 = refl
 
@@ -148,13 +148,13 @@ recordedAs verdict line trace report = record { verdict = verdict; line = line; 
 -- it is carried out and logged, and the next turn cuts
 last-instruction : results ("arrive=1,0,0,0" ∷ times 129 "turn=1" []) ≡ recordedAs 0 0 31 2207
 unfolding recordOf batchRecorded readPrograms readSchedule readText readLines addLine lineOf fieldsOf fieldOf prefix numberOf digitsOf pushOf
-    parts onto within count addProgram addDo addArrive addTurn go effectAs upd
+    parts onto within addProgram addDo addArrive addTurn go effectAs upd
     traceText reportText linesText eventText ofText entryText lineText numbersText separatorOf decimal digitsIn
 last-instruction = refl
 
 still-open : results ("arrive=1,0,0,0" ∷ times 128 "turn=1" []) ≡ recordedAs 15 1 0 0
 unfolding recordOf batchRecorded readPrograms readSchedule readText readLines addLine lineOf fieldsOf fieldOf prefix numberOf digitsOf pushOf
-    parts onto within count addProgram addDo addArrive addTurn go effectAs upd
+    parts onto within addProgram addDo addArrive addTurn go effectAs upd
     traceText reportText linesText eventText ofText entryText lineText numbersText separatorOf decimal digitsIn
 still-open = refl
 
@@ -171,12 +171,12 @@ nine ls =
 
 one-too-many : results (nine (turnsOf8 ("turn=9" ∷ []))) ≡ recordedAs 14 1034 0 0
 unfolding recordOf batchRecorded readPrograms readSchedule readText readLines addLine lineOf fieldsOf fieldOf prefix numberOf digitsOf pushOf
-    parts onto within count addProgram addDo addArrive addTurn go effectAs upd
+    parts onto within addProgram addDo addArrive addTurn go effectAs upd
     traceText reportText linesText eventText ofText entryText lineText numbersText separatorOf decimal digitsIn
 one-too-many = refl
 
 enough : results (nine (turnsOf8 [])) ≡ recordedAs 15 1 0 0
 unfolding recordOf batchRecorded readPrograms readSchedule readText readLines addLine lineOf fieldsOf fieldOf prefix numberOf digitsOf pushOf
-    parts onto within count addProgram addDo addArrive addTurn go effectAs upd
+    parts onto within addProgram addDo addArrive addTurn go effectAs upd
     traceText reportText linesText eventText ofText entryText lineText numbersText separatorOf decimal digitsIn
 enough = refl

@@ -8,6 +8,7 @@ use native.Mathlib.Omega.{arith}
 use lib.Dec.{ltb}
 use lib.ListN.{length, getD, set, length-set}
 use borrow.Author.Tests.{ltb-true}
+use Rattle.basics.proofs.Firsts.{firsts-length, firsts-at}
 use Rattle.text.specs.Formats.{mostEntries}
 use Rattle.text.specs.Held.{Bounded, tableIn}
 use Rattle.text.specs.Programs.{noInstr, noProgram, known, instrFrom}
@@ -15,11 +16,11 @@ use Rattle.text.specs.declared.programs.Instr.{Instr}
 use Rattle.text.specs.declared.programs.Program.{Program}
 use Rattle.text.specs.declared.programs.Programs.{Programs}
 use Rattle.text.specs.declared.schedule.Move.{Move}
-use Rattle.text.proofs.RowLaws.{firsts-length, firsts-at, set-next}
+use Rattle.text.proofs.RowLaws.{set-next}
 use Rattle.model.specs.Host.{recorded, andThen}
 use Rattle.machine.specs.Instance.{codeAt, gone, machineOf}
 use Rattle.machine.specs.Instructions.{effect, effectOf}
-use Rattle.machine.specs.Objects.{atStart}
+use Rattle.machine.specs.Objects.{Content}
 use Rattle.machine.specs.Processes.{advanced, limit, instrAt, stopAt, advanceOf}
 use Rattle.machine.specs.declared.instructions.Act.{Act}
 use Rattle.machine.specs.declared.processes.Next.the-variants.{Cut}
@@ -105,7 +106,7 @@ module _ (table : Table) (prog : ℕ) (l : List ℕ) (at done : ℕ) where
   cut-off h = ap pathless (cut limit (codeIn table prog) l at done h)
 
 -- ── the programs that were read, laid out ──
-module _ (ps : Programs) (table : Table) (few : ps .n ≤ 16) (bounded : (k : ℕ) → k < ps .n → Bounded (getD (ps .table) k noProgram))
+module _ (opening : ℕ → Content) (ps : Programs) (table : Table) (few : ps .n ≤ 16) (bounded : (k : ℕ) → k < ps .n → Bounded (getD (ps .table) k noProgram))
     (laid : Laid ps table) where
   abbrev t : List Program
   t = programsOf table (ps .n)
@@ -128,10 +129,10 @@ module _ (ps : Programs) (table : Table) (few : ps .n ≤ 16) (bounded : (k : �
       ∙ same-code (ps .table) (ps .n) prog h (bounded prog h) at
 
   -- the run of a schedule, and what is written of it
-  pub recorded-same : (ms : List Move) (m n : ℕ) → recordedMoves u ms m n ≡ recordedMoves t ms m n
+  pub recorded-same : (ms : List Move) (m n : ℕ) → recordedMoves opening u ms m n ≡ recordedMoves opening t ms m n
   recorded-same ms m n =
       let a = tables-agree limit t u (known t) same in
       let e = t-length ∙ sym u-length in
-      let r = both.recorded-same (gone limit t) (gone limit u) (known t) a mostEntries 16 ms atStart
-      ∙ ap (λ k. recorded (machineOf u) (λ prog. ltb prog k) mostEntries 16 atStart ms) e in
+      let r = both.recorded-same (gone limit t) (gone limit u) (known t) a mostEntries 16 ms opening
+      ∙ ap (λ k. recorded (machineOf u) (λ prog. ltb prog k) mostEntries 16 opening ms) e in
       sym (ap (λ x. andThen x (λ b. fitted m n (textsOf b))) r)

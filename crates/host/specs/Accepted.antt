@@ -3,7 +3,7 @@ use Prim.Native.Nat.{ℕ}
 use mathlib.Core.List.{List}
 use mathlib.Core.Path.{_≡_}
 use lib.ListN.{length, take}
-use Rattle.text.specs.Text.{count}
+use Rattle.basics.specs.Count.{count}
 use Rattle.text.specs.Trace.{isRequest}
 use Rattle.model.specs.Batch.{Batch}
 use Rattle.model.specs.Checks.{verdict}

@@ -7,5 +7,6 @@ pub mod Printed
 pub mod Steps
 pub mod Requests
 pub mod Tables
+pub mod Memory
 pub mod Moves
 pub mod Runs

@@ -8,7 +8,7 @@ use mathlib.Core.Path.{_≡_}
 use lib.Dec.{ltb}
 use lib.ListN.{length}
 use Rattle.lines.specs.Put.{front}
-use Rattle.text.specs.Formats.{mostEntries}
+use Rattle.text.specs.Formats.{mostEntries, mostObjects}
 use Rattle.text.specs.Programs.{readPrograms, known}
 use Rattle.text.specs.Written.{reportText, traceText}
 use Rattle.text.specs.Schedule.{readSchedule}
@@ -20,24 +20,20 @@ use Rattle.model.specs.Checks.{check, breaks, faultOr, unlessFault, badLine, co
 use Rattle.model.specs.Host.{Result, fault, made, andThen, recorded}
 use Rattle.machine.specs.Front.{programChecks}
 use Rattle.machine.specs.Instance.{machineOf}
-use Rattle.machine.specs.Objects.{atStart}
+use Rattle.machine.specs.Objects.{Content, atStart}
 use Rattle.host.specs.declared.Recorded.{Recorded}
 
--- how many objects there are
-abbrev pub objects : ℕ
-objects = 16
-
--- Rows 14 and 15: the run of a schedule, which makes a batch. It has at most as many operations as a report has room for.
-abbrev pub runOf : List Program → List Move → Result Batch
-runOf table moves = recorded (machineOf table) (known table) mostEntries objects atStart moves
+-- Rows 14 and 15: the run of a schedule from contents at the start, which makes a batch. It has at most as many operations as a report has room for.
+abbrev pub runOf : (opening : ℕ → Content) → List Program → List Move → Result Batch
+runOf opening table moves = recorded (machineOf table) (known table) mostEntries mostObjects opening moves
 
 -- rows 1, 2 and 13, and then the run, where `programs` and `schedule` are what was read
-abbrev pub batchFrom : Read (List Program) → Read (List Move) → Result Batch
-batchFrom programs schedule =
-    unlessFault fault (programChecks programs ++ (check 13 (badLine schedule) ∷ [])) (runOf (contents [] programs) (contents [] schedule))
+abbrev pub batchFrom : (opening : ℕ → Content) → Read (List Program) → Read (List Move) → Result Batch
+batchFrom opening programs schedule =
+    unlessFault fault (programChecks programs ++ (check 13 (badLine schedule) ∷ [])) (runOf opening (contents [] programs) (contents [] schedule))
 
 unfoldable pub batchRecorded : (programs schedule : List ℕ) → Result Batch
-batchRecorded programs schedule = batchFrom (readPrograms programs) (readSchedule schedule)
+batchRecorded programs schedule = batchFrom atStart (readPrograms programs) (readSchedule schedule)
 
 -- the two texts of a batch
 pub record Texts : Type 0 where

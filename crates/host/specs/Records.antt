@@ -10,6 +10,7 @@ use Rattle.text.specs.declared.programs.Program.{Program}
 use Rattle.text.specs.declared.schedule.Move.{Move}
 use Rattle.model.specs.Batch.{Batch}
 use Rattle.model.specs.Host.{made}
+use Rattle.machine.specs.Objects.{atStart}
 use Rattle.machine.specs.Rules.{row2}
 use Rattle.host.specs.Recorded.{runOf, textsOf, row16}
 
@@ -22,7 +23,7 @@ pub record Ran (programs schedule : List ℕ) (batch : Batch) : Type 0 where
   pub moves : List Move
   pub movesRead : readSchedule schedule ≡ readable moves
   -- rows 14 and 15
-  pub run : runOf table moves ≡ made batch
+  pub run : runOf atStart table moves ≡ made batch
 
 pub record Records (programs schedule : List ℕ) (roomForTrace roomForReport : ℕ) : Type 0 where
   pub batch : Batch

@@ -4,6 +4,7 @@ use mathlib.Core.Bool.{Bool, true, false, cond, not}
 use mathlib.Core.List.{List, [], _∷_}
 use lib.Dec.{eqb, ltb}
 use lib.ListN.{getD}
+use Rattle.text.specs.Formats.{mostRequests}
 use Rattle.text.specs.Rows.{row}
 use Rattle.host.specs.declared.requests.Progress.{Progress}
 use Rattle.host.specs.declared.requests.Standing.{Standing}
@@ -29,7 +30,7 @@ standingRow s v = cond (isOpenIn v) (Open s) Idle
 
 unfoldable pub standingIn : (states : List ℕ) → ℕ → Standing
 standingIn states zero = Missing
-standingIn states (suc s) = cond (ltb s 64) (standingRow s (row 12 states s)) Missing
+standingIn states (suc s) = cond (ltb s mostRequests) (standingRow s (row 12 states s)) Missing
 
 abbrev pub waitsIn : Standing → Bool
 waitsIn Missing = false

@@ -3,6 +3,7 @@ use crate::records::record;
 use lines::Put;
 use lines::put_bytes;
 use lines::written;
+use text::TEXT_BYTES;
 use writing::put_verdict;
 use writing::verdict_width;
 ghost use mathlib.Core.List.{_++_};
@@ -12,8 +13,10 @@ ghost use lib.Dec.{ltb};
 ghost use lib.ListN.{length};
 ghost use Rattle.lines.specs.Put.{PutIs};
 ghost use Rattle.writing.specs.Verdict.{verdictText};
-ghost use Rattle.host.specs.Printed.{recordedText, mostPrinted};
-ghost use Rattle.host.specs.Recorded.{recordOf};
+ghost use Rattle.host.specs.Printed.{runPrinted, mostPrinted};
+
+// As much as is ever printed (`mostPrinted`): the verdict lines, and the two texts.
+pub const PRINTED: usize = 55 + 2 * TEXT_BYTES;
 
 // Whether out is too short for so many bytes, then b, then c. No sum is taken, since none is known to stay below 2^64.
 fn too_short(out: &[u8], a: usize, b: &[u8], c: &[u8]) -> bool
@@ -52,12 +55,12 @@ fn put_recorded(verdict: u64, line: u64, trace: &[u8], report: &[u8], out: &mut 
 // (`never-short`).
 pub fn record_text(programs: &[u8], schedule: &[u8], out: &mut [u8]) -> Put
     ensures printed { λ r. ⌜ PutIs
-        (recordedText (recordOf (now (programs .entry)) (now (schedule .entry)) 65535 65535))
+        (runPrinted (now (programs .entry)) (now (schedule .entry)))
         (now (out .entry)) (now (out .exit)) r ⌝ }
-    ensures most { λ _. ⌜ length (recordedText (recordOf (now (programs .entry)) (now (schedule .entry)) 65535 65535)) ≤ mostPrinted ⌝ }
+    ensures most { λ _. ⌜ length (runPrinted (now (programs .entry)) (now (schedule .entry))) ≤ mostPrinted ⌝ }
 {
-    let mut trace = [0u8; 65535];
-    let mut report = [0u8; 65535];
+    let mut trace = [0u8; TEXT_BYTES];
+    let mut report = [0u8; TEXT_BYTES];
     let r = record(programs, schedule, &mut trace, &mut report);
     let t = r.trace_len;
     let n = r.report_len;

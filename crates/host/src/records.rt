@@ -1,5 +1,7 @@
 // The reference host: programs and a schedule are read, the schedule is run, and what it means is written.
 use crate::Recorded;
+use crate::limits::RID_SLOTS;
+use crate::limits::STATE_ROWS;
 use crate::logs::by_object;
 use crate::outputs::refused;
 use crate::outputs::write_texts;
@@ -7,13 +9,24 @@ use crate::programs::lay_out;
 use crate::runs::Run;
 use crate::runs::row_15;
 use crate::runs::run_moves;
+use cells::BUCKETS;
+use cells::CELL_ROWS;
+use machine::REGISTERS;
 use machine::Ruling;
 use machine::check_rules;
+use text::ARRIVAL_ROWS;
+use text::ENTRY_ROWS;
+use text::EVENT_ROWS;
+use text::INSTRUCTIONS;
 use text::Lines;
+use text::MOVES;
+use text::OF_ROWS;
+use text::PROGRAMS;
 use text::read_programs;
 use text::read_schedule;
 ghost use mathlib.Core.Path.{_≡_};
 ghost use lib.ListN.{length};
+ghost use Rattle.machine.specs.Objects.{atStart};
 ghost use Rattle.host.specs.Accepted.{Accepted};
 ghost use Rattle.host.specs.Recorded.{recordOf, RecordIs};
 ghost use Rattle.host.specs.Tables.{programsOf};
@@ -21,25 +34,28 @@ ghost use Rattle.host.specs.Runs.{movesIn, Scheduled, recordedMoves};
 
 // Rows 14 to 16, of `programs` programs and a schedule of n lines that were read.
 fn record_moves(
-    table: &[[[u64; 4]; 64]; 16],
+    table: &[[[u64; 4]; INSTRUCTIONS]; PROGRAMS],
     programs: usize,
-    moves: &[u32; 9362],
-    arrivals: &[u64; 256],
+    moves: &[u32; MOVES],
+    arrivals: &[u64; ARRIVAL_ROWS],
     n: usize,
     trace: &mut [u8],
     report: &mut [u8],
 ) -> Recorded
     requires { ⌜ Scheduled (now moves) (now arrivals) n ⌝ }
     ensures { λ r. ⌜ RecordIs
-        (recordedMoves (programsOf (now (table .entry)) programs) (movesIn (now (moves .entry)) (now (arrivals .entry)) n)
+        (recordedMoves atStart (programsOf (now (table .entry)) programs) (movesIn (now (moves .entry)) (now (arrivals .entry)) n)
         (length (now (trace .entry))) (length (now (report .entry))))
         (now (trace .entry)) (now (report .entry)) (now (trace .exit)) (now (report .exit)) r ⌝ }
 {
-    let mut slots = [0u8; 65536];
-    let mut states = [0u64; 768];
-    let mut ofs = [0u64; 192];
-    let mut events = [0u64; 640];
-    let mut logs = [0u64; 6144];
+    let mut slots = [0u8; RID_SLOTS];
+    let mut states = [0u64; STATE_ROWS];
+    let mut ofs = [0u64; OF_ROWS];
+    let mut events = [0u64; EVENT_ROWS];
+    let mut logs = [0u64; ENTRY_ROWS];
+    let mut registers = [0u64; REGISTERS];
+    let mut cells = [0u64; CELL_ROWS];
+    let mut buckets = [0u16; BUCKETS];
     match run_moves(
         table,
         programs,
@@ -51,6 +67,10 @@ fn record_moves(
         &mut ofs,
         &mut events,
         &mut logs,
+        &mut registers,
+        &mut cells,
+        &mut buckets,
+        0,
     ) {
         Run::Breaks(line) => {
             return refused(14, line);
@@ -62,7 +82,7 @@ fn record_moves(
                 }
                 Ruling::Kept => {}
             }
-            let mut sorted = [0u64; 6144];
+            let mut sorted = [0u64; ENTRY_ROWS];
             let k = by_object(&logs, c.operations, &mut sorted);
             return write_texts(
                 &events,
@@ -96,14 +116,14 @@ pub fn record(programs: &[u8], schedule: &[u8], trace: &mut [u8], report: &mut [
         }
         Ruling::Kept => {}
     }
-    let mut moves = [0u32; 9362];
-    let mut arrivals = [0u64; 256];
+    let mut moves = [0u32; MOVES];
+    let mut arrivals = [0u64; ARRIVAL_ROWS];
     match read_schedule(schedule, &mut moves, &mut arrivals) {
         Lines::Unreadable(line) => {
             return refused(13, line);
         }
         Lines::Readable(n) => {
-            let mut table = [[[0u64; 4]; 64]; 16];
+            let mut table = [[[0u64; 4]; INSTRUCTIONS]; PROGRAMS];
             lay_out(ps, &mut table);
             return record_moves(&table, ps.n, &moves, &arrivals, n, trace, report);
         }

@@ -1,10 +1,17 @@
 // The requests of a run. Each has a slot, in arrival order, where its `of` line and its state stand. The slot of a rid counts from 1;
 // 0 says that the rid has not arrived.
+use crate::limits::RID_SLOTS;
+use crate::limits::STATE_ROW;
+use crate::limits::STATE_ROWS;
+use basics::index_of_byte;
+use machine::LOCALS;
+use text::REQUESTS;
+use text::RIDS;
 ghost use mathlib.Core.Path.{_≡_};
-ghost use mathlib.Core.List.{[], _∷_};
 ghost use Prim.Native.Nat.{_%_, _<_};
 ghost use lib.ListN.{getD, set};
 ghost use Rattle.lines.specs.Place.{cells};
+ghost use Rattle.text.specs.Formats.{mostRequests, mostRids};
 ghost use Rattle.text.specs.Rows.{row, withRow};
 ghost use Rattle.host.specs.Requests.{stateNumbers, isOpenIn, progressIn, localsIn, standingIn};
 
@@ -22,31 +29,31 @@ pub enum Standing {
     Open(usize),
 }
 
-fn wide(x: u8) -> usize
-    ensures { λ r. ⌜ r ≡ x ⌝ }
+pub(crate) fn slot_of(slots: &[u8; RID_SLOTS], rid: u64) -> usize
+    ensures { λ r. ⌜ r ≡ getD (now (slots .entry)) (rid % mostRids) 0 ⌝ }
 {
-    x as usize
+    index_of_byte(slots[(rid % RIDS) as usize])
 }
 
-pub(crate) fn slot_of(slots: &[u8; 65536], rid: u64) -> usize
-    ensures { λ r. ⌜ r ≡ getD (now (slots .entry)) (rid % 65536) 0 ⌝ }
-{
-    wide(slots[(rid % 65536) as usize])
-}
-
-pub(crate) fn put_slot(slots: &mut [u8; 65536], rid: u64, slot: usize)
+pub(crate) fn put_slot(slots: &mut [u8; RID_SLOTS], rid: u64, slot: usize)
     requires { ⌜ slot < 256 ⌝ }
-    ensures { λ _. ⌜ now (slots .exit) ≡ set (now (slots .entry)) (rid % 65536) slot ⌝ }
+    ensures { λ _. ⌜ now (slots .exit) ≡ set (now (slots .entry)) (rid % mostRids) slot ⌝ }
 {
-    slots[(rid % 65536) as usize] = slot as u8;
+    slots[(rid % RIDS) as usize] = slot as u8;
 }
 
 // Row s of states: 1 for an open request or 0, its progress, and its eight locals.
-pub(crate) fn put_state(states: &mut [u64; 768], s: usize, open: u64, x: Progress, l: &[u64; 8])
-    requires { ⌜ s < 64 ⌝ }
+pub(crate) fn put_state(
+    states: &mut [u64; STATE_ROWS],
+    s: usize,
+    open: u64,
+    x: Progress,
+    l: &[u64; LOCALS],
+)
+    requires { ⌜ s < mostRequests ⌝ }
     ensures { λ _. ⌜ now (states .exit) ≡ withRow 12 (now (states .entry)) s (stateNumbers «open» x (cells 8 (now (l .entry)))) ⌝ }
 {
-    let k = s * 12;
+    let k = s * STATE_ROW;
     states[k] = open;
     states[k + 1] = x.prog;
     states[k + 2] = x.at;
@@ -61,18 +68,18 @@ pub(crate) fn put_state(states: &mut [u64; 768], s: usize, open: u64, x: Progres
     states[k + 11] = l[7];
 }
 
-fn is_open(states: &[u64; 768], s: usize) -> bool
-    requires { ⌜ s < 64 ⌝ }
+fn is_open(states: &[u64; STATE_ROWS], s: usize) -> bool
+    requires { ⌜ s < mostRequests ⌝ }
     ensures { λ r. ⌜ r ≡ isOpenIn (row 12 (now (states .entry)) s) ⌝ }
 {
-    states[s * 12] != 0
+    states[s * STATE_ROW] != 0
 }
 
-pub(crate) fn progress_at(states: &[u64; 768], s: usize) -> Progress
-    requires { ⌜ s < 64 ⌝ }
+pub(crate) fn progress_at(states: &[u64; STATE_ROWS], s: usize) -> Progress
+    requires { ⌜ s < mostRequests ⌝ }
     ensures { λ r. ⌜ r ≡ progressIn (row 12 (now (states .entry)) s) ⌝ }
 {
-    let k = s * 12;
+    let k = s * STATE_ROW;
     Progress {
         prog: states[k + 1],
         at: states[k + 2],
@@ -80,11 +87,11 @@ pub(crate) fn progress_at(states: &[u64; 768], s: usize) -> Progress
     }
 }
 
-pub(crate) fn locals_at(states: &[u64; 768], s: usize) -> [u64; 8]
-    requires { ⌜ s < 64 ⌝ }
+pub(crate) fn locals_at(states: &[u64; STATE_ROWS], s: usize) -> [u64; LOCALS]
+    requires { ⌜ s < mostRequests ⌝ }
     ensures { λ r. ⌜ r ≡ localsIn (row 12 (now (states .entry)) s) ⌝ }
 {
-    let k = s * 12;
+    let k = s * STATE_ROW;
     [
         states[k + 4],
         states[k + 5],
@@ -97,26 +104,15 @@ pub(crate) fn locals_at(states: &[u64; 768], s: usize) -> [u64; 8]
     ]
 }
 
-// Row s of ofs: the rid, the slot as its group, and how many operations there are so far.
-pub(crate) fn put_of(ofs: &mut [u64; 192], s: usize, rid: u64, count: u64)
-    requires { ⌜ s < 64 ⌝ }
-    ensures { λ _. ⌜ now (ofs .exit) ≡ withRow 3 (now (ofs .entry)) s (rid ∷ s ∷ count ∷ []) ⌝ }
-{
-    let k = s * 3;
-    ofs[k] = rid;
-    ofs[k + 1] = s as u64;
-    ofs[k + 2] = count;
-}
-
-// The request of a turn. No slot is above 64.
-pub(crate) fn standing_of(slots: &[u8; 65536], states: &[u64; 768], rid: u64) -> Standing
-    ensures { λ r. ⌜ r ≡ standingIn (now (states .entry)) (getD (now (slots .entry)) (rid % 65536) 0) ⌝ }
+// The request of a turn. No slot is above REQUESTS.
+pub(crate) fn standing_of(slots: &[u8; RID_SLOTS], states: &[u64; STATE_ROWS], rid: u64) -> Standing
+    ensures { λ r. ⌜ r ≡ standingIn (now (states .entry)) (getD (now (slots .entry)) (rid % mostRids) 0) ⌝ }
 {
     let slot = slot_of(slots, rid);
     if slot == 0 {
         return Standing::Missing;
     }
-    if 64 < slot {
+    if REQUESTS < slot {
         return Standing::Missing;
     }
     let s = slot - 1;

@@ -1,24 +1,39 @@
 // Rows 14 and 15: the run of a schedule, line by line, and the requests that it leaves open.
+use crate::limits::RID_SLOTS;
+use crate::limits::STATE_ROWS;
 use crate::requests::Standing;
 use crate::requests::standing_of;
 use crate::steps::Counts;
 use crate::steps::Step;
 use crate::steps::arrive;
 use crate::steps::turn;
+use cells::BUCKETS;
+use cells::CELL_ROWS;
+use machine::REGISTERS;
 use machine::Ruling;
+use text::ARRIVAL_ROWS;
+use text::ENTRY_ROWS;
+use text::EVENT_ROWS;
+use text::INSTRUCTIONS;
+use text::MOVES;
 use text::Move;
+use text::OF_ROWS;
+use text::PROGRAMS;
 use text::move_at;
 ghost use mathlib.Core.Path.{_≡_};
 ghost use mathlib.Core.List.{[]};
 ghost use Prim.Native.Nat.{_%_};
 ghost use lib.ListN.{length, getD};
-ghost use Rattle.text.specs.Held.{moveAt};
-ghost use Rattle.text.specs.Rows.{firsts};
+ghost use Rattle.basics.specs.Firsts.{firsts};
+ghost use Rattle.text.specs.Formats.{mostRids};
+ghost use Rattle.text.specs.Held.{moveAt, mostMoves};
 ghost use Rattle.model.specs.FirstBad.{firstBad};
 ghost use Rattle.machine.specs.Rules.{brokenLine};
 ghost use Rattle.host.specs.Requests.{waitsIn, standingIn};
 ghost use Rattle.host.specs.Tables.{programsOf};
-ghost use Rattle.host.specs.Runs.{Ready, RunIs, leftOpen};
+ghost use Rattle.machine.specs.Held.{objects};
+ghost use Rattle.host.specs.Memory.{memory};
+ghost use Rattle.host.specs.Runs.{Ready, RunsFrom, leftOpen};
 
 // A schedule that was run: the line that breaks row 14, or what there is at the end.
 pub enum Run {
@@ -26,30 +41,36 @@ pub enum Run {
     Ends(Counts),
 }
 
-// The run of the first n lines of a schedule, where `programs` programs are known. The arrays are all 0 before it.
+// The run of the first n lines of a schedule, where `programs` programs are known, from the objects that the arrays hold in `used` cells. No
+// request has arrived before it.
 pub(crate) fn run_moves(
-    table: &[[[u64; 4]; 64]; 16],
+    table: &[[[u64; 4]; INSTRUCTIONS]; PROGRAMS],
     programs: usize,
-    moves: &[u32; 9362],
-    arrivals: &[u64; 256],
+    moves: &[u32; MOVES],
+    arrivals: &[u64; ARRIVAL_ROWS],
     n: usize,
-    slots: &mut [u8; 65536],
-    states: &mut [u64; 768],
-    ofs: &mut [u64; 192],
-    events: &mut [u64; 640],
-    logs: &mut [u64; 6144],
+    slots: &mut [u8; RID_SLOTS],
+    states: &mut [u64; STATE_ROWS],
+    ofs: &mut [u64; OF_ROWS],
+    events: &mut [u64; EVENT_ROWS],
+    logs: &mut [u64; ENTRY_ROWS],
+    registers: &mut [u64; REGISTERS],
+    cells: &mut [u64; CELL_ROWS],
+    buckets: &mut [u16; BUCKETS],
+    used: usize,
 ) -> Run
-    requires { ⌜ Ready (now moves) (now arrivals) n (now slots) (now states) (now ofs) (now events) (now logs) ⌝ }
-    ensures { λ r. ⌜ RunIs (programsOf (now (table .entry)) programs) (now (moves .entry)) (now (arrivals .entry)) n
-        (now (slots .exit)) (now (states .exit)) (now (ofs .exit)) (now (events .exit)) (now (logs .exit)) r ⌝ }
+    requires { ⌜ Ready (now moves) (now arrivals) n (now slots) (now states) (now ofs) (now events) (now logs)
+        (objects (now registers) (now cells) (now buckets) used) ⌝ }
+    ensures { λ r. ⌜ RunsFrom (objects (now (registers .entry)) (now (cells .entry)) (now (buckets .entry)) used)
+        (programsOf (now (table .entry)) programs) (now (moves .entry)) (now (arrivals .entry)) n
+        (now (slots .exit)) (memory (now (states .exit)) (now (ofs .exit)) (now (events .exit)) (now (logs .exit))
+        (now (registers .exit)) (now (cells .exit)) (now (buckets .exit))) r ⌝ }
 {
-    let mut registers = [0u64; 8];
-    let mut heads = [0u16; 1016];
-    let mut befores = [0u16; 1024];
     let mut c = Counts {
         requests: 0,
         events: 0,
         operations: 0,
+        cells: used,
     };
     let mut i: usize = 0;
     while i < n {
@@ -80,9 +101,9 @@ pub(crate) fn run_moves(
                             ofs,
                             events,
                             logs,
-                            &mut registers,
-                            &mut heads,
-                            &mut befores,
+                            registers,
+                            cells,
+                            buckets,
                         ) else {
                             return Run::Breaks(i + 1);
                         };
@@ -97,8 +118,8 @@ pub(crate) fn run_moves(
 }
 
 // Whether the request of a rid is open.
-fn waits(slots: &[u8; 65536], states: &[u64; 768], rid: u64) -> bool
-    ensures { λ r. ⌜ r ≡ waitsIn (standingIn (now (states .entry)) (getD (now (slots .entry)) (rid % 65536) 0)) ⌝ }
+fn waits(slots: &[u8; RID_SLOTS], states: &[u64; STATE_ROWS], rid: u64) -> bool
+    ensures { λ r. ⌜ r ≡ waitsIn (standingIn (now (states .entry)) (getD (now (slots .entry)) (rid % mostRids) 0)) ⌝ }
 {
     match standing_of(slots, states, rid) {
         Standing::Missing => false,
@@ -109,13 +130,13 @@ fn waits(slots: &[u8; 65536], states: &[u64; 768], rid: u64) -> bool
 
 // Row 15: the first arrival whose request is left open.
 pub(crate) fn row_15(
-    moves: &[u32; 9362],
-    arrivals: &[u64; 256],
+    moves: &[u32; MOVES],
+    arrivals: &[u64; ARRIVAL_ROWS],
     n: usize,
-    slots: &[u8; 65536],
-    states: &[u64; 768],
+    slots: &[u8; RID_SLOTS],
+    states: &[u64; STATE_ROWS],
 ) -> Ruling
-    requires { ⌜ length (now moves) ≡ 9362 ⌝ }
+    requires { ⌜ length (now moves) ≡ mostMoves ⌝ }
     ensures { λ r. ⌜ brokenLine r ≡ firstBad (leftOpen (now (slots .entry)) (now (states .entry))) 1 []
         (firsts (moveAt (now (moves .entry)) (now (arrivals .entry))) n) ⌝ }
 {

@@ -1,58 +1,63 @@
 // What one line of the schedule does to a run: an arrival opens a request; a turn takes one on to its next operation, or to its reply
 // or cut.
-use crate::logs::put_line;
+use crate::limits::RID_SLOTS;
+use crate::limits::STATE_ROWS;
 use crate::programs::instr_at;
 use crate::requests::Progress;
 use crate::requests::locals_at;
 use crate::requests::progress_at;
-use crate::requests::put_of;
 use crate::requests::put_slot;
 use crate::requests::put_state;
 use crate::requests::slot_of;
+use cells::BUCKETS;
+use cells::CELL_ROWS;
 use machine::Act;
 use machine::LIMIT;
+use machine::LOCALS;
 use machine::Next;
+use machine::REGISTERS;
 use machine::Stop;
 use machine::carry_out;
 use machine::first_locals;
 use machine::perform;
 use machine::resume;
+use text::ENTRIES;
+use text::ENTRY_ROWS;
+use text::EVENT_ROWS;
 use text::Entry;
+use text::Event;
+use text::INSTRUCTIONS;
+use text::OF_ROWS;
+use text::Of;
 use text::Op;
+use text::POSITIONS;
+use text::PROGRAMS;
 use text::of_at;
+use text::put_entry;
+use text::put_event;
+use text::put_of;
 ghost use mathlib.Core.Path.{_≡_};
-ghost use mathlib.Core.List.{[], _∷_};
-ghost use Prim.Native.Nat.{_<_, _≤_};
-ghost use Rattle.text.specs.Held.{ofAt};
-ghost use Rattle.text.specs.Rows.{withRow};
+ghost use mathlib.Core.List.{List, []};
+ghost use Prim.Native.Nat.{ℕ, _<_, _≤_};
+ghost use Rattle.text.specs.Formats.{mostEntries, mostRequests};
+ghost use Rattle.text.specs.Held.{ofAt, mostEvents};
 ghost use Rattle.machine.specs.Processes.{advanced, limit, advanceOf};
+ghost use Rattle.host.specs.Memory.{memory};
 ghost use Rattle.host.specs.Tables.{codeIn};
-ghost use Rattle.host.specs.Moves.{Arrived, Operated, Replied, ArriveIs, pathless, TurnIs};
+ghost use Rattle.host.specs.Moves.{Arrived, ArriveIs, Operated, replied, pathless, TurnIs};
 
-// How many requests have arrived, and how many events and log lines there are.
+// How many requests have arrived, and how many events, log lines and cells of the stores there are.
 pub struct Counts {
     pub requests: usize,
     pub events: usize,
     pub operations: usize,
+    pub cells: usize,
 }
 
 // A line of the schedule: it breaks row 14, or the run goes on.
 pub enum Step {
     Broken,
     On(Counts),
-}
-
-// Row i of events: 0 for a request or 1 for a response, and its line's numbers.
-fn put_event(events: &mut [u64; 640], i: usize, kind: u64, rid: u64, x: u64, y: u64, z: u64)
-    requires { ⌜ i < 128 ⌝ }
-    ensures { λ _. ⌜ now (events .exit) ≡ withRow 5 (now (events .entry)) i (kind ∷ rid ∷ x ∷ y ∷ z ∷ []) ⌝ }
-{
-    let k = i * 5;
-    events[k] = kind;
-    events[k + 1] = rid;
-    events[k + 2] = x;
-    events[k + 3] = y;
-    events[k + 4] = z;
 }
 
 // A request opens in the next slot.
@@ -62,14 +67,15 @@ fn open_request(
     prog: u64,
     a: u64,
     b: u64,
-    slots: &mut [u8; 65536],
-    states: &mut [u64; 768],
-    ofs: &mut [u64; 192],
-    events: &mut [u64; 640],
+    slots: &mut [u8; RID_SLOTS],
+    states: &mut [u64; STATE_ROWS],
+    ofs: &mut [u64; OF_ROWS],
+    events: &mut [u64; EVENT_ROWS],
 ) -> Counts
-    requires { ⌜ (c .requests < 64) × (c .events < 128) ⌝ }
-    ensures { λ r. ⌜ Arrived c rid prog a b (now (slots .entry)) (now (states .entry)) (now (ofs .entry)) (now (events .entry))
-        (now (slots .exit)) (now (states .exit)) (now (ofs .exit)) (now (events .exit)) r ⌝ }
+    requires { ⌜ (c .requests < mostRequests) × (c .events < mostEvents) ⌝ }
+    ensures { λ r. ⌜ ((logs registers cells buckets : List ℕ) → Arrived rid prog a b
+        (now (slots .entry)) (memory (now (states .entry)) (now (ofs .entry)) (now (events .entry)) logs registers cells buckets c)
+        (now (slots .exit)) (memory (now (states .exit)) (now (ofs .exit)) (now (events .exit)) logs registers cells buckets r)) ⌝ }
 {
     let s = c.requests;
     let l = first_locals(a, b);
@@ -85,12 +91,21 @@ fn open_request(
         },
         &l,
     );
-    put_of(ofs, s, rid, 0);
-    put_event(events, c.events, 0, rid, prog, a, b);
+    put_of(
+        ofs,
+        s,
+        Of {
+            rid,
+            group: s as u64,
+            count: 0,
+        },
+    );
+    put_event(events, c.events, Event::Request { rid, prog, a, b });
     Counts {
         requests: s + 1,
         events: c.events + 1,
         operations: c.operations,
+        cells: c.cells,
     }
 }
 
@@ -102,14 +117,15 @@ pub(crate) fn arrive(
     prog: u64,
     a: u64,
     b: u64,
-    slots: &mut [u8; 65536],
-    states: &mut [u64; 768],
-    ofs: &mut [u64; 192],
-    events: &mut [u64; 640],
+    slots: &mut [u8; RID_SLOTS],
+    states: &mut [u64; STATE_ROWS],
+    ofs: &mut [u64; OF_ROWS],
+    events: &mut [u64; EVENT_ROWS],
 ) -> Step
-    requires { ⌜ (c .requests < 64) × (c .events < 128) ⌝ }
-    ensures { λ r. ⌜ ArriveIs n c rid prog a b (now (slots .entry)) (now (states .entry)) (now (ofs .entry)) (now (events .entry))
-        (now (slots .exit)) (now (states .exit)) (now (ofs .exit)) (now (events .exit)) r ⌝ }
+    requires { ⌜ (c .requests < mostRequests) × (c .events < mostEvents) ⌝ }
+    ensures { λ r. ⌜ ((logs registers cells buckets : List ℕ) → ArriveIs n rid prog a b
+        (now (slots .entry)) (memory (now (states .entry)) (now (ofs .entry)) (now (events .entry)) logs registers cells buckets c)
+        (now (slots .exit)) (memory (now (states .exit)) (now (ofs .exit)) (now (events .exit)) logs registers cells buckets) r) ⌝ }
 {
     if n as u64 <= prog {
         return Step::Broken;
@@ -126,33 +142,43 @@ fn operate(
     s: usize,
     rid: u64,
     x: Progress,
-    l: &mut [u64; 8],
+    l: &mut [u64; LOCALS],
     o: Op,
     into: u64,
-    states: &mut [u64; 768],
-    ofs: &mut [u64; 192],
-    logs: &mut [u64; 6144],
-    registers: &mut [u64; 8],
-    heads: &mut [u16; 1016],
-    befores: &mut [u16; 1024],
+    states: &mut [u64; STATE_ROWS],
+    ofs: &mut [u64; OF_ROWS],
+    logs: &mut [u64; ENTRY_ROWS],
+    registers: &mut [u64; REGISTERS],
+    cells: &mut [u64; CELL_ROWS],
+    buckets: &mut [u16; BUCKETS],
 ) -> Counts
-    requires { ⌜ (s < 64) × (c .operations < 1024) × (ofAt (now ofs) s .count ≤ c .operations) ⌝ }
-    ensures { λ r. ⌜ Operated c s rid x (now (l .entry)) o into
-        (now (states .entry)) (now (ofs .entry)) (now (logs .entry)) (now (registers .entry)) (now (heads .entry)) (now (befores .entry))
-        (now (states .exit)) (now (ofs .exit)) (now (logs .exit)) (now (registers .exit)) (now (heads .exit)) (now (befores .exit)) r ⌝ }
+    requires { ⌜ (s < mostRequests) × (c .operations < mostEntries) × (ofAt (now ofs) s .count ≤ c .operations) ⌝ }
+    ensures { λ r. ⌜ ((events : List ℕ) → Operated s rid x (now (l .entry)) o into
+        (memory (now (states .entry)) (now (ofs .entry)) events (now (logs .entry))
+        (now (registers .entry)) (now (cells .entry)) (now (buckets .entry)) c)
+        (memory (now (states .exit)) (now (ofs .exit)) events (now (logs .exit))
+        (now (registers .exit)) (now (cells .exit)) (now (buckets .exit)) r)) ⌝ }
 {
     let own = of_at(ofs, s);
     let num = own.count + 1;
-    let i = c.operations;
-    put_line(logs, i, Entry { rid, num, op: o });
-    let v = perform(logs, i, registers, heads, befores);
-    resume(l, into, v);
+    put_entry(logs, c.operations, Entry { rid, num, op: o });
+    let p = perform(o, registers, cells, buckets, c.cells);
+    resume(l, into, p.answer);
     put_state(states, s, 1, x, l);
-    put_of(ofs, s, rid, num);
+    put_of(
+        ofs,
+        s,
+        Of {
+            rid,
+            group: s as u64,
+            count: num,
+        },
+    );
     Counts {
         requests: c.requests,
         events: c.events,
-        operations: i + 1,
+        operations: c.operations + 1,
+        cells: p.used,
     }
 }
 
@@ -162,27 +188,36 @@ fn reply(
     s: usize,
     rid: u64,
     x: Progress,
-    l: &[u64; 8],
+    l: &[u64; LOCALS],
     status: u64,
     value: u64,
-    states: &mut [u64; 768],
-    events: &mut [u64; 640],
+    states: &mut [u64; STATE_ROWS],
+    events: &mut [u64; EVENT_ROWS],
 ) -> Counts
-    requires { ⌜ (s < 64) × (c .events < 128) ⌝ }
-    ensures { λ r. ⌜ Replied c s rid x (now (l .entry)) status value (now (states .entry)) (now (events .entry))
-        (now (states .exit)) (now (events .exit)) r ⌝ }
+    requires { ⌜ (s < mostRequests) × (c .events < mostEvents) ⌝ }
+    ensures { λ r. ⌜ ((ofs logs registers cells buckets : List ℕ) →
+        memory (now (states .exit)) ofs (now (events .exit)) logs registers cells buckets r
+        ≡ replied s rid x (now (l .entry)) status value
+        (memory (now (states .entry)) ofs (now (events .entry)) logs registers cells buckets c)) ⌝ }
 {
     put_state(states, s, 0, x, l);
-    put_event(events, c.events, 1, rid, status, value, 0);
+    put_event(events, c.events, Event::Response { rid, status, value });
     Counts {
         requests: c.requests,
         events: c.events + 1,
         operations: c.operations,
+        cells: c.cells,
     }
 }
 
 // A request of program prog goes on up to and including its next operation, or to its reply, or to its cut. The host keeps no path of it.
-fn advance(table: &[[[u64; 4]; 64]; 16], prog: u64, l: &mut [u64; 8], at: u64, done: usize) -> Stop
+fn advance(
+    table: &[[[u64; 4]; INSTRUCTIONS]; PROGRAMS],
+    prog: u64,
+    l: &mut [u64; LOCALS],
+    at: u64,
+    done: usize,
+) -> Stop
     ensures { λ r. ⌜ advanced (now (l .exit)) r []
         ≡ pathless (advanceOf limit (codeIn (now (table .entry)) prog) (now (l .entry)) at done) ⌝ }
 {
@@ -190,7 +225,7 @@ fn advance(table: &[[[u64; 4]; 64]; 16], prog: u64, l: &mut [u64; 8], at: u64, d
     let mut done = done;
     while done < LIMIT {
         let i = instr_at(table, prog, at);
-        let next = at % 64 + 1;
+        let next = at % POSITIONS + 1;
         done += 1;
         match carry_out(l, i, next) {
             Act::Goes(to) => {
@@ -221,24 +256,24 @@ fn advance(table: &[[[u64; 4]; 64]; 16], prog: u64, l: &mut [u64; 8], at: u64, d
 
 // A turn of the open request in slot s.
 pub(crate) fn turn(
-    table: &[[[u64; 4]; 64]; 16],
+    table: &[[[u64; 4]; INSTRUCTIONS]; PROGRAMS],
     c: Counts,
     s: usize,
     rid: u64,
-    states: &mut [u64; 768],
-    ofs: &mut [u64; 192],
-    events: &mut [u64; 640],
-    logs: &mut [u64; 6144],
-    registers: &mut [u64; 8],
-    heads: &mut [u16; 1016],
-    befores: &mut [u16; 1024],
+    states: &mut [u64; STATE_ROWS],
+    ofs: &mut [u64; OF_ROWS],
+    events: &mut [u64; EVENT_ROWS],
+    logs: &mut [u64; ENTRY_ROWS],
+    registers: &mut [u64; REGISTERS],
+    cells: &mut [u64; CELL_ROWS],
+    buckets: &mut [u16; BUCKETS],
 ) -> Step
-    requires { ⌜ (s < 64) × (c .events < 128) × (ofAt (now ofs) s .count ≤ c .operations) ⌝ }
-    ensures { λ r. ⌜ TurnIs (now (table .entry)) c s rid
-        (now (states .entry)) (now (ofs .entry)) (now (events .entry)) (now (logs .entry))
-        (now (registers .entry)) (now (heads .entry)) (now (befores .entry))
-        (now (states .exit)) (now (ofs .exit)) (now (events .exit)) (now (logs .exit))
-        (now (registers .exit)) (now (heads .exit)) (now (befores .exit)) r ⌝ }
+    requires { ⌜ (s < mostRequests) × (c .events < mostEvents) × (ofAt (now ofs) s .count ≤ c .operations) ⌝ }
+    ensures { λ r. ⌜ TurnIs (now (table .entry)) s rid
+        (memory (now (states .entry)) (now (ofs .entry)) (now (events .entry)) (now (logs .entry))
+        (now (registers .entry)) (now (cells .entry)) (now (buckets .entry)) c)
+        (memory (now (states .exit)) (now (ofs .exit)) (now (events .exit)) (now (logs .exit))
+        (now (registers .exit)) (now (cells .exit)) (now (buckets .exit))) r ⌝ }
 {
     let was = progress_at(states, s);
     let mut l = locals_at(states, s);
@@ -251,7 +286,7 @@ pub(crate) fn turn(
     let next = stop.next;
     match next {
         Next::Operation(o, into) => {
-            if 1024 <= c.operations {
+            if ENTRIES <= c.operations {
                 return Step::Broken;
             }
             let d = operate(
@@ -266,8 +301,8 @@ pub(crate) fn turn(
                 ofs,
                 logs,
                 registers,
-                heads,
-                befores,
+                cells,
+                buckets,
             );
             return Step::On(d);
         }

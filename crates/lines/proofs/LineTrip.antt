@@ -9,6 +9,7 @@ use lib.ListN.{length, drop, drop-of-length-le}
 use lib.Seq.{drop-append-seam}
 use lib.Dec.{ltb, leb, eqb}
 use borrow.Author.Tests.{ltb-true, ltb-false, leb-true, eq-eqb, ne-eqb}
+use Rattle.basics.proofs.Tests.{clash}
 use Rattle.lines.specs.Number.{numberOf}
 use Rattle.lines.specs.Decimal.{decimal}
 use Rattle.lines.specs.Parts.{parts, onto}
@@ -125,9 +126,6 @@ field-range : (r : Range) (p : List ℕ) (v : ℕ) → fieldOf r p ≡ Value v �
 unfolding fieldOf
 field-range r p v e = go (numberOf p) refl e
   where
-    clash : _≡_ {A = ℕ} 0 1 → InRange r v
-    clash z = absurd (omega (arith, z))
-
     go : (n : Numeral) → numberOf p ≡ n →
         elim n [ Value x ↦ elim (leb (r .low) x && leb x (r .high)) [ true ↦ Value x | false ↦ Not ] | Not ↦ Not ] ≡ Value v →
         InRange r v
@@ -148,21 +146,21 @@ field-range r p v e = go (numberOf p) refl e
 fields-range : (rs : List Range) (ps : List (List ℕ)) (vs : List ℕ) → fieldsOf rs ps ≡ some vs → InRanges rs vs
 unfolding fieldsOf
 fields-range [] [] [] e = tt
-fields-range [] [] (v ∷ vs) e = let z : _≡_ {A = ℕ} 0 1 = cc in absurd (omega arith)
-fields-range [] (p ∷ ps) vs e = let z : _≡_ {A = ℕ} 0 1 = cc in absurd (omega arith)
-fields-range (r ∷ rs) [] vs e = let z : _≡_ {A = ℕ} 0 1 = cc in absurd (omega arith)
+fields-range [] [] (v ∷ vs) e = clash (cc)
+fields-range [] (p ∷ ps) vs e = clash (cc)
+fields-range (r ∷ rs) [] vs e = clash (cc)
 fields-range (r ∷ rs) (p ∷ ps) vs e = go (fieldOf r p) (fieldsOf rs ps) refl refl vs e (fields-range rs ps)
   where
     go : (n : Numeral) (o : Option (List ℕ)) → fieldOf r p ≡ n → fieldsOf rs ps ≡ o → (us : List ℕ) →
         elim n [ Value v ↦ inFront v o | Not ↦ none ] ≡ some us →
         ((ws : List ℕ) → fieldsOf rs ps ≡ some ws → InRanges rs ws) → InRanges (r ∷ rs) us
-    go (Value v) (some ws) i j [] k ih = let z : _≡_ {A = ℕ} 0 1 = cc in absurd (omega arith)
+    go (Value v) (some ws) i j [] k ih = clash (cc)
     go (Value v) (some ws) i j (u ∷ us) k ih =
         let h : v ≡ u = cc in
         let g : ws ≡ us = cc in
         (field-range r p u (i ∙ ap Value h), ih us (j ∙ ap some g))
-    go (Value v) none i j us k ih = let z : _≡_ {A = ℕ} 0 1 = cc in absurd (omega arith)
-    go Not o i j us k ih = let z : _≡_ {A = ℕ} 0 1 = cc in absurd (omega arith)
+    go (Value v) none i j us k ih = clash (cc)
+    go Not o i j us k ih = clash (cc)
 
 pub line-range : (f : Format) (p vs : List ℕ) → lineOf f p ≡ some vs → InRanges (f .ranges) vs
 unfolding lineOf
@@ -172,7 +170,7 @@ line-range f p vs e = go (prefix (f .word) p) e
         elim b [ true ↦ fieldsOf (f .ranges) (parts 44 (drop (length (f .word)) p)) | false ↦ none ] ≡ some vs →
         InRanges (f .ranges) vs
     go true k = fields-range (f .ranges) (parts 44 (drop (length (f .word)) p)) vs k
-    go false k = let z : _≡_ {A = ℕ} 0 1 = cc in absurd (omega arith)
+    go false k = clash (cc)
 
 -- a line has a number behind its word
 no-fields : (rs : List Range) → fieldsOf rs (parts 44 []) ≡ none
@@ -191,8 +189,8 @@ line-longer f p vs e = go (prefix (f .word) p) refl e (ltb (length (f .word)) (l
     go true q k false l =
         let d : drop (length (f .word)) p ≡ [] = drop-of-length-le p (ltb-false _ _ l) in
         let n = sym (no-fields (f .ranges)) ∙ ap (λ t. fieldsOf (f .ranges) (parts 44 t)) (sym d) ∙ k in
-        let z : _≡_ {A = ℕ} 0 1 = cc in absurd (omega arith)
-    go false q k x l = let z : _≡_ {A = ℕ} 0 1 = cc in absurd (omega arith)
+        clash (cc)
+    go false q k x l = clash (cc)
 
 -- ── how long a written line is at most ──
 

@@ -7,6 +7,7 @@ use native.Mathlib.Omega.{arith}
 use lib.Dec.{ltb, leb, eqb}
 use borrow.Author.Tests.{ltb-true, ltb-false}
 use lib.ListN.{length, getD, length-append, List·getD-append}
+use Rattle.basics.proofs.Tests.{clash}
 use Rattle.lines.specs.declared.numbers.Numeral.{Numeral}
 use Rattle.lines.specs.declared.numbers.Numeral.the-variants.{Value, Not}
 use Rattle.lines.specs.Number.{pushOf, digitsOf, numberOf}
@@ -69,8 +70,8 @@ push-fits v b w e = go (leb 48 b && leb b 57) (ltb (v * 10 + (b - 48)) (2 ^ 64))
     go : (x y : Bool) → ltb (v * 10 + (b - 48)) (2 ^ 64) ≡ y →
         elim (x && y) [ true ↦ Value (v * 10 + (b - 48)) | false ↦ Not ] ≡ Value w → w < 2 ^ 64
     go true true p k = let h : v * 10 + (b - 48) ≡ w = cc in omega (arith, h, ltb-true (v * 10 + (b - 48)) (2 ^ 64) p)
-    go true false p k = let z : _≡_ {A = ℕ} 0 1 = cc in absurd (omega arith)
-    go false y p k = let z : _≡_ {A = ℕ} 0 1 = cc in absurd (omega arith)
+    go true false p k = clash (cc)
+    go false y p k = clash (cc)
 
 digits-fit : (s : List ℕ) (v w : ℕ) → v < 2 ^ 64 → digitsOf v s ≡ Value w → w < 2 ^ 64
 unfolding digitsOf
@@ -80,15 +81,15 @@ digits-fit (b ∷ s) v w h e = go (pushOf v b) refl e (λ y. digits-fit s y w)
     go : (p : Numeral) → pushOf v b ≡ p → elim p [ Value y ↦ digitsOf y s | Not ↦ Not ] ≡ Value w →
         ((y : ℕ) → y < 2 ^ 64 → digitsOf y s ≡ Value w → w < 2 ^ 64) → w < 2 ^ 64
     go (Value y) q k ih = ih y (push-fits v b y q) k
-    go Not q k ih = let z : _≡_ {A = ℕ} 0 1 = cc in absurd (omega arith)
+    go Not q k ih = clash (cc)
 
 pub number-fits : (s : List ℕ) (v : ℕ) → numberOf s ≡ Value v → v < 2 ^ 64
 unfolding numberOf
-number-fits [] v e = let z : _≡_ {A = ℕ} 0 1 = cc in absurd (omega arith)
+number-fits [] v e = clash (cc)
 number-fits (b ∷ s) v e = go (eqb b 48) (eqb (length s) 0) e
   where
     go : (x y : Bool) →
         elim x [ true ↦ elim y [ true ↦ Value 0 | false ↦ Not ] | false ↦ digitsOf 0 (b ∷ s) ] ≡ Value v → v < 2 ^ 64
     go true true k = let h : 0 ≡ v = cc in omega arith
-    go true false k = let z : _≡_ {A = ℕ} 0 1 = cc in absurd (omega arith)
+    go true false k = clash (cc)
     go false y k = digits-fit (b ∷ s) 0 v (omega arith) k

@@ -7,6 +7,7 @@ use native.Mathlib.Omega.{arith}
 use lib.ListN.{length, getD}
 use lib.Dec.{ltb, leb}
 use borrow.Author.Tests.{lt-leb, le-leb, leb-true, le-ltb, lt-ltb, eq-eqb, ne-eqb}
+use Rattle.basics.proofs.Tests.{clash}
 use Rattle.lines.specs.Number.{pushOf, digitsOf, numberOf}
 use Rattle.lines.specs.declared.numbers.Numeral.{Numeral}
 use Rattle.lines.specs.declared.numbers.Numeral.the-variants.{Value, Not}
@@ -65,4 +66,4 @@ digits-more u (x ∷ s) w b e = go (pushOf u x) e (λ y. digits-more y s w b)
         ((y : ℕ) → digitsOf y s ≡ Value w → digitsOf y (s ++ b ∷ []) ≡ pushOf w b) →
         elim p [ Value y ↦ digitsOf y (s ++ b ∷ []) | Not ↦ Not ] ≡ pushOf w b
     go (Value y) h ih = ih y h
-    go Not h ih = let z : _≡_ {A = ℕ} 0 1 = cc in absurd (omega arith)
+    go Not h ih = clash (cc)

@@ -1,11 +1,12 @@
 // A line at a place of a text: its word, and its numbers in their ranges.
 ghost use mathlib.Core.Path.{_≡_};
-ghost use Prim.Native.Nat.{_≤_, min};
+ghost use Prim.Native.Nat.{_≤_};
 ghost use Rattle.lines.specs.Line.{prefix, rangesOf, formatOf};
 ghost use Rattle.lines.specs.Place.{fieldsAt, lineAt, foundIn};
 ghost use Rattle.lines.specs.Steps.{commaAt};
 use crate::numbers::Spelled;
 use crate::numbers::number_at;
+use basics::least;
 
 // Where a line ends, its line feed or the end of the text; or it is none.
 pub enum Place {
@@ -35,12 +36,6 @@ fn comma(s: &[u8], e: usize) -> bool
     ensures { λ r. ⌜ r ≡ commaAt (now (s .entry)) e ⌝ }
 {
     if e < s.len() { s[e] == 44 } else { false }
-}
-
-fn at_most_six(n: usize) -> usize
-    ensures { λ r. ⌜ r ≡ min n 6 ⌝ }
-{
-    if n < 6 { n } else { 6 }
 }
 
 // The fields from at on to the line's end, n of them, into v.
@@ -104,5 +99,5 @@ pub fn line_at(
     if !begins(&s[at..], w) {
         return Place::Nowhere;
     }
-    fields_at(s, at + w.len(), at_most_six(n), low, high, v)
+    fields_at(s, at + w.len(), least(n, 6), low, high, v)
 }

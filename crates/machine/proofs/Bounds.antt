@@ -7,18 +7,18 @@ use mathlib.Core.List.{List, [], _∷_}
 use native.Mathlib.Omega.{arith}
 use lib.Dec.{eqb, ltb}
 use lib.ListN.{getD, set, replicate}
+use Rattle.basics.proofs.Tests.{clash}
+use Rattle.text.specs.Codes.{Code, reply, constant, add, subtract, less, jump, read, write, get, put, other, codeOf, isOperation}
 use Rattle.text.specs.declared.programs.Instr.{Instr}
 use Rattle.text.specs.declared.programs.Program.{Program}
 use Rattle.text.specs.declared.report.Op.{Op}
-use Rattle.ordering.proofs.Basics.{clash}
 use Rattle.model.specs.Machine.{op, stop}
 use Rattle.model.specs.Bounds.{Within, Bounded}
-use Rattle.machine.specs.declared.objects.Cell.the-variants.{Put}
+use Rattle.cells.specs.declared.stores.Cell.the-variants.{Put}
 use Rattle.machine.specs.declared.instructions.Act.{Act}
 use Rattle.machine.specs.declared.instructions.Act.the-variants.{Goes, Asks, Replies}
 use Rattle.machine.specs.declared.processes.Next.{Next}
 use Rattle.machine.specs.declared.processes.Next.the-variants.{Operation, Reply, Cut}
-use Rattle.machine.specs.Codes.{Code, reply, constant, add, subtract, less, jump, read, write, get, put, other, codeOf}
 use Rattle.machine.specs.Instructions.{Effect, effectAs, effectOf, local}
 use Rattle.machine.specs.Processes.{Advanced, behind, go, instrAt, resumed}
 use Rattle.machine.specs.Objects.{Content, register, store, reads, apply, changes, written, valueOf}
@@ -130,25 +130,25 @@ within limit table p o e =
     (λ l at n h. near (codeOf (instrAt (codeAt table (p .prog)) at .code)) l _ n) (p .locals) (p .at) (p .done) tt in
     subst (FitNext (λ l. Unit {0}) (λ o. o .object < 16) (λ v. Unit {0})) (d .1) (g .next-fit)
 
--- fields stay below 2^64
+-- fields stay below 2^64, and a kind is the code of an operation
 abbrev pub FitOp : Op → Type 0
-FitOp o = (o .object < 16) × (6 ≤ o .kind) × (o .kind ≤ 9) × Word (o .key) × Word (o .value)
+FitOp o = (o .object < 16) × (isOperation (o .kind) ≡ true) × Word (o .key) × Word (o .value)
 
 module _ (l : List ℕ) (i : Instr) (n : ℕ) (h : Words l) (w : Word (i .b)) where
-  fits : (code : ℕ) → i .code ≡ code → FitEffect Words FitOp Word (effectAs (codeOf code) l i n)
+  fits : (code : Code) → codeOf (i .code) ≡ code → FitEffect Words FitOp Word (effectAs code l i n)
   unfolding effectAs
-  fits zero e = (h, h (i .a % 8))
-  fits (suc zero) e = (words-set l (i .a % 8) (i .b) h w, tt)
-  fits (suc (suc zero)) e = (words-set l (i .a % 8) _ h (word-mod _), tt)
-  fits (suc (suc (suc zero))) e = (words-set l (i .a % 8) _ h (word-mod _), tt)
-  fits (suc (suc (suc (suc zero)))) e =
+  fits reply e = (h, h (i .a % 8))
+  fits constant e = (words-set l (i .a % 8) (i .b) h w, tt)
+  fits add e = (words-set l (i .a % 8) _ h (word-mod _), tt)
+  fits subtract e = (words-set l (i .a % 8) _ h (word-mod _), tt)
+  fits less e =
       (words-set l (i .a % 8) _ h (word-cond (ltb (local l (i .b)) (local l (i .c))) 1 0 (omega arith) (omega arith)), tt)
-  fits (suc (suc (suc (suc (suc zero))))) e = (h, tt)
-  fits (suc (suc (suc (suc (suc (suc zero)))))) e = (h, (omega arith, omega arith, omega arith, omega arith, omega arith))
-  fits (suc (suc (suc (suc (suc (suc (suc zero))))))) e = (h, (omega arith, omega arith, omega arith, omega arith, h (i .b % 8)))
-  fits (suc (suc (suc (suc (suc (suc (suc (suc zero)))))))) e = (h, (omega arith, omega arith, omega arith, h (i .c % 8), omega arith))
-  fits (suc (suc (suc (suc (suc (suc (suc (suc (suc zero))))))))) e = (h, (omega arith, omega arith, omega arith, h (i .b % 8), h (i .c % 8)))
-  fits (suc (suc (suc (suc (suc (suc (suc (suc (suc (suc k)))))))))) e = (h, tt)
+  fits jump e = (h, tt)
+  fits read e = (h, (omega arith, rw e, omega arith, omega arith))
+  fits write e = (h, (omega arith, rw e, omega arith, h (i .b % 8)))
+  fits get e = (h, (omega arith, rw e, h (i .c % 8), omega arith))
+  fits put e = (h, (omega arith, rw e, h (i .b % 8), h (i .c % 8)))
+  fits other e = (h, tt)
 
 replies : (x : Next) (status value : ℕ) → FitNext Words FitOp Word x → nextOf x ≡ stop status value → (status ≤ 1) × Word value
 replies (Operation u into) s v f e = clash (cc)
@@ -200,7 +200,7 @@ module _ (limit : ℕ) (table : List Program) (words : (prog at : ℕ) → Word 
       let k = g .counted o (d .0) (d .1) in
       let w : FitOp o = subst (FitNext Words FitOp Word) (d .1) (g .next-fit) in (
         w,
-        left-fit o (w .4) c h,
+        left-fit o (w .3) c h,
         (
           limit - r .stop .done,
           omega (arith, f .0, k .0, k .1),

@@ -5,8 +5,8 @@ use mathlib.Core.List.{List}
 use mathlib.Core.Path.{_≡_, refl, _∙_}
 use lib.Dec.{ltb}
 use lib.ListN.{length, set, length-set}
+use Rattle.text.specs.Codes.{Code, reply, constant, add, subtract, less, jump, read, write, get, put, other, codeOf}
 use Rattle.text.specs.declared.programs.Instr.{Instr}
-use Rattle.machine.specs.Codes.{Code, reply, constant, add, subtract, less, jump, read, write, get, put, other, codeOf}
 use Rattle.machine.specs.Instructions.{effectAs, effectOf, noLocal}
 use Rattle.machine.specs.Processes.{Advanced, instrAt, go, resumed}
 use Rattle.machine.proofs.Steps.{follow}

@@ -2,22 +2,17 @@
 use Prim.Native.Nat.{ℕ, zero, suc, _≤_, _<_}
 use mathlib.Core.Path.{_≡_, refl, ap, _∙_}
 use mathlib.Core.Bool.{Bool, true, false, cond}
-use mathlib.Core.List.{List, [], _∷_, _++_}
 use lib.Dec.{eqb, ltb}
 use borrow.Author.Tests.{lt-ltb, le-ltb, ltb-true, ltb-false, eqb-true}
+use Rattle.basics.specs.Firsts.{firsts}
+use Rattle.basics.proofs.Tests.{byBool}
 use Rattle.text.specs.declared.report.Entry.{Entry}
 use Rattle.text.specs.declared.report.Op.{Op}
-use Rattle.text.specs.Rows.{firsts}
-use Rattle.ordering.proofs.Basics.{byBool}
-use Rattle.machine.specs.declared.objects.Cell.{Cell}
-use Rattle.machine.specs.declared.objects.Cell.the-variants.{Put}
+use Rattle.cells.specs.declared.stores.Cell.{Cell}
+use Rattle.cells.specs.declared.stores.Cell.the-variants.{Put}
 use Rattle.machine.specs.Objects.{Content, register, store, atStart, valueOf, reads}
 use Rattle.machine.specs.Logs.{ops, after, afterAll, nearest, writes}
-
--- one line more
-afterAll-snoc : (cs : ℕ → Content) (ls : List Entry) (l : Entry) → afterAll cs (ls ++ l ∷ []) ≡ after (afterAll cs ls) (l .op)
-afterAll-snoc cs [] l = refl
-afterAll-snoc cs (x ∷ ls) l = afterAll-snoc (after cs (x .op)) ls l
+use Rattle.machine.proofs.LogLaws.{after-snoc}
 
 module _ (cs : ℕ → Content) (o : Op) (object : ℕ) where
   -- the object's own content, where the operation is one on it
@@ -46,7 +41,7 @@ module _ (line : ℕ → Entry) where
   unfolding firsts nearest
   register-nearest zero object key h = rw (lt-ltb object 8 h)
   register-nearest (suc n) object key h =
-      ap (λ f. f object) (afterAll-snoc atStart (firsts line n) (line n))
+      ap (λ f. f object) (after-snoc atStart (firsts line n) (line n))
       ∙ after-register (afterAll atStart (firsts line n)) (line n .op) object key (nearest (ops line) object key n) h
       (register-nearest n object key h)
 
@@ -55,7 +50,7 @@ module _ (line : ℕ → Entry) where
   unfolding firsts nearest
   store-nearest zero object h = rw (le-ltb object 8 h)
   store-nearest (suc n) object h =
-      ap (λ f. f object) (afterAll-snoc atStart (firsts line n) (line n))
+      ap (λ f. f object) (after-snoc atStart (firsts line n) (line n))
       ∙ after-store (afterAll atStart (firsts line n)) (line n .op) object (λ key. nearest (ops line) object key n) h
       (store-nearest n object h)
 

@@ -4,13 +4,13 @@ use mathlib.Core.Bool.{Bool, true, false, cond}
 use mathlib.Core.List.{List, [], _∷_, _++_}
 use mathlib.Core.Path.{_≡_, refl, ap, _∙_, subst, fun-ext}
 use lib.Dec.{eqb, ltb}
+use Rattle.basics.specs.Choice.{choose}
+use Rattle.basics.specs.Maps.{upd}
 use Rattle.text.specs.declared.report.Entry.{Entry}
 use Rattle.text.specs.declared.schedule.Move.the-variants.{Arrive, Turn}
 use Rattle.text.specs.declared.schedule.Move.{Move}
 use Rattle.text.specs.declared.trace.Event.the-variants.{Request, Response}
 use Rattle.text.specs.declared.trace.Event.{Event}
-use Rattle.ordering.specs.Choice.{choose}
-use Rattle.ordering.specs.Maps.{upd}
 use Rattle.model.specs.Checks.{faultOr}
 use Rattle.model.specs.FirstBad.{firstBad}
 use Rattle.model.specs.Host.{Result, fault, made, Host, empty, Stepped, broken, on, arrive, afterOperation, turnAt, turnOf, commit, stepped, goOn, runFrom, isOpen, bad15, ofsFrom, logsFrom, batchWritten, andThen, close, recorded}

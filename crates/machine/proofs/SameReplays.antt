@@ -6,6 +6,7 @@ use mathlib.Core.Logic.{_↔_}
 use mathlib.Core.Option.{Option, none, some}
 use mathlib.Core.Path.{_≡_, refl, sym, ap, _∙_}
 use lib.Dec.{eqb}
+use Rattle.basics.specs.Lists.{All}
 use Rattle.text.specs.declared.report.Entry.{Entry}
 use Rattle.text.specs.declared.report.Of.{Of}
 use Rattle.text.specs.declared.report.Op.{Op}
@@ -13,7 +14,6 @@ use Rattle.text.specs.declared.trace.Event.the-variants.{Request, Response}
 use Rattle.text.specs.declared.trace.Event.{Event}
 use Rattle.text.specs.Report.{Report}
 use Rattle.text.specs.Text.{readable}
-use Rattle.ordering.specs.Lists.{All}
 use Rattle.model.specs.Audit.{from4, bad10, bad11, bad12, replayChecks, audit}
 use Rattle.model.specs.Requests.{row4}
 use Rattle.model.specs.Batch.{Batch, claims, countOf, firstOf}

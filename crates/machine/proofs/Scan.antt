@@ -10,12 +10,12 @@ use native.Mathlib.Numerals.{add-one}
 use lib.ListN.{getD, drop, drop-of-length-le}
 use lib.Seq.{getD-take, drop-cons}
 use borrow.Author.Tests.{leb-true}
+use Rattle.basics.specs.Firsts.{firsts}
+use Rattle.basics.proofs.Firsts.{firsts-length, firsts-at}
+use Rattle.basics.proofs.Tests.{and-true}
 use Rattle.text.specs.declared.programs.Program.{Program}
 use Rattle.text.specs.Held.{trimmed, programAt}
 use Rattle.text.specs.Programs.{noInstr, noProgram}
-use Rattle.text.specs.Rows.{firsts}
-use Rattle.text.proofs.RowLaws.{firsts-length, firsts-at}
-use Rattle.ordering.proofs.Basics.{and-true}
 use Rattle.model.specs.FirstBad.{firstBad}
 use Rattle.machine.specs.Rules.{Line, program, instruction, instructionLines, linesFrom, keepsRules, row2}
 

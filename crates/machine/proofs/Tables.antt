@@ -9,13 +9,13 @@ use borrow.Author.Tests.{ltb-true, ltb-false}
 use lib.Dec.{ltb}
 use lib.ListN.{getD, take, length-take, List·getD-eq-default}
 use lib.Seq.{getD-take}
+use Rattle.basics.specs.Firsts.{firsts}
+use Rattle.basics.proofs.Firsts.{firsts-at}
+use Rattle.basics.proofs.Tests.{byBool}
 use Rattle.text.specs.Held.{trimmed, programAt, Bounded}
 use Rattle.text.specs.Programs.{noInstr, noProgram}
-use Rattle.text.specs.Rows.{firsts}
 use Rattle.text.specs.declared.programs.Instr.{Instr}
 use Rattle.text.specs.declared.programs.Program.{Program}
-use Rattle.text.proofs.RowLaws.{firsts-at}
-use Rattle.ordering.proofs.Basics.{byBool}
 use Rattle.machine.specs.declared.instructions.Act.{Act}
 use Rattle.machine.specs.declared.instructions.Act.the-variants.{Goes, Asks, Replies}
 use Rattle.machine.specs.Instance.{Process, codeAt, gone}

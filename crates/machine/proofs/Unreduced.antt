@@ -11,14 +11,15 @@ use native.Mathlib.Omega.{arith}
 use lib.Dec.{eqb, leb, ltb}
 use lib.ListN.{getD, set, length}
 use borrow.Author.Tests.{ltb-true, eqb-false, ne-eqb}
+use Rattle.basics.specs.Lists.{All}
+use Rattle.basics.proofs.Lists.{all-append-left, all-append-right}
+use Rattle.basics.proofs.Tests.{clash, byBool, and-true}
+use Rattle.text.specs.Codes.{Code, reply, constant, add, subtract, less, jump, read, write, get, put, other, isCode, codeOf}
 use Rattle.text.specs.declared.programs.Instr.{Instr}
 use Rattle.text.specs.declared.programs.Program.{Program}
 use Rattle.text.specs.declared.report.Op.{Op}
 use Rattle.text.specs.declared.schedule.Move.{Move}
 use Rattle.text.specs.Programs.{noInstr, noProgram, known}
-use Rattle.ordering.specs.Lists.{All}
-use Rattle.ordering.proofs.Basics.{clash, byBool, and-true}
-use Rattle.ordering.proofs.Lists.{all-append-left, all-append-right}
 use Rattle.model.specs.Audit.{audit}
 use Rattle.model.specs.Batch.{Batch}
 use Rattle.model.specs.FirstBad.{firstBad}
@@ -28,7 +29,6 @@ use Rattle.model.specs.Machine.{Machine, op}
 use Rattle.machine.specs.declared.instructions.Act.{Act}
 use Rattle.machine.specs.declared.instructions.Act.the-variants.{Goes, Asks, Replies}
 use Rattle.machine.specs.declared.processes.Next.the-variants.{Operation, Reply, Cut}
-use Rattle.machine.specs.Codes.{Code, reply, constant, add, subtract, less, jump, read, write, get, put, other, codeOf}
 use Rattle.machine.specs.Instance.{Process, nextOf, codeAt, resumedWith, machineBy}
 use Rattle.machine.specs.Instance as instance
 use Rattle.machine.specs.Instructions.{Effect, effect, bit, noLocal}
@@ -37,8 +37,7 @@ use Rattle.machine.specs.Objects.{Content}
 use Rattle.machine.specs.Processes.{Advanced, advanced, stopAt, behind, instrAt}
 use Rattle.machine.specs.Processes as processes
 use Rattle.machine.specs.Rules.{
-  rows,
-  fields,
+  fieldsOf,
   fitsAs,
   keepsFields,
   Line,
@@ -49,7 +48,7 @@ use Rattle.machine.specs.Rules.{
   keepsRules,
   row2,
 }
-use Rattle.machine.specs.declared.rules.Field.the-variants.{Unused, Local, Register, Store, Target}
+use Rattle.machine.specs.declared.rules.Field.the-variants.{Local, Register, Store, Target}
 use Rattle.machine.proofs.Bounds.{operation}
 use Rattle.machine.proofs.SameHosts.{recorded-same}
 use Rattle.machine.proofs.SameReplays.{Agree, audit-same, demand-same}
@@ -141,18 +140,18 @@ programs-keep k (p ∷ ps) a (suc prog) h =
 -- ── one instruction ──
 module _ (n : ℕ) (l : List ℕ) (i : Instr) where
   -- what the rules say of the fields of a code
-  abbrev Fit : ℕ → Type 0
+  abbrev Fit : Code → Type 0
   Fit code =
-      let f = getD rows code (fields Unused Unused Unused) in
+      let f = fieldsOf code in
       (fitsAs (f .a) n (i .a) ≡ true) × (fitsAs (f .b) n (i .b) ≡ true) × (fitsAs (f .c) n (i .c) ≡ true)
 
-  fit : keepsFields n i ≡ true → Fit (i .code)
+  fit : keepsFields n i ≡ true → Fit (codeOf (i .code))
   fit e =
-      let f = getD rows (i .code) (fields Unused Unused Unused) in
+      let f = fieldsOf (codeOf (i .code)) in
       let a = fitsAs (f .a) n (i .a) in
       let b = fitsAs (f .b) n (i .b) in
       let c = fitsAs (f .c) n (i .c) in
-      let all = and-true a (b && c) (and-true (ltb (i .code) 10) (a && (b && c)) e .1) in
+      let all = and-true a (b && c) (and-true (isCode (i .code)) (a && (b && c)) e .1) in
       let rest = and-true b c (all .1) in
       (all .0, rest .0, rest .1)
 
@@ -166,21 +165,19 @@ module _ (n : ℕ) (l : List ℕ) (i : Instr) where
   store v e = let h = ltb-true v 16 (and-true (leb 8 v) (ltb v 16) e .1) in omega arith
 
   module _ (next : ℕ) where
-    effect-same : (code : ℕ) → Fit code → instructions.effectAs (codeOf code) l i next ≡ effectAs (codeOf code) l i next
+    effect-same : (code : Code) → Fit code → instructions.effectAs code l i next ≡ effectAs code l i next
     unfolding instructions.effectAs effectAs
-    effect-same zero f = rw (below8 (i .a) (f .0))
-    effect-same (suc zero) f = rw (below8 (i .a) (f .0))
-    effect-same (suc (suc zero)) f = rw (below8 (i .a) (f .0), below8 (i .b) (f .1), below8 (i .c) (f .2))
-    effect-same (suc (suc (suc zero))) f = rw (below8 (i .a) (f .0), below8 (i .b) (f .1), below8 (i .c) (f .2))
-    effect-same (suc (suc (suc (suc zero)))) f = rw (below8 (i .a) (f .0), below8 (i .b) (f .1), below8 (i .c) (f .2))
-    effect-same (suc (suc (suc (suc (suc zero))))) f = rw (below8 (i .a) (f .0))
-    effect-same (suc (suc (suc (suc (suc (suc zero)))))) f = rw (below8 (i .a) (f .0), register (i .b) (f .1))
-    effect-same (suc (suc (suc (suc (suc (suc (suc zero))))))) f = rw (register (i .a) (f .0), below8 (i .b) (f .1))
-    effect-same (suc (suc (suc (suc (suc (suc (suc (suc zero)))))))) f =
-        rw (below8 (i .a) (f .0), store (i .b) (f .1), below8 (i .c) (f .2))
-    effect-same (suc (suc (suc (suc (suc (suc (suc (suc (suc zero))))))))) f =
-        rw (store (i .a) (f .0), below8 (i .b) (f .1), below8 (i .c) (f .2))
-    effect-same (suc (suc (suc (suc (suc (suc (suc (suc (suc (suc code)))))))))) f = refl
+    effect-same reply f = rw (below8 (i .a) (f .0))
+    effect-same constant f = rw (below8 (i .a) (f .0))
+    effect-same add f = rw (below8 (i .a) (f .0), below8 (i .b) (f .1), below8 (i .c) (f .2))
+    effect-same subtract f = rw (below8 (i .a) (f .0), below8 (i .b) (f .1), below8 (i .c) (f .2))
+    effect-same less f = rw (below8 (i .a) (f .0), below8 (i .b) (f .1), below8 (i .c) (f .2))
+    effect-same jump f = rw (below8 (i .a) (f .0))
+    effect-same read f = rw (below8 (i .a) (f .0), register (i .b) (f .1))
+    effect-same write f = rw (register (i .a) (f .0), below8 (i .b) (f .1))
+    effect-same get f = rw (below8 (i .a) (f .0), store (i .b) (f .1), below8 (i .c) (f .2))
+    effect-same put f = rw (store (i .a) (f .0), below8 (i .b) (f .1), below8 (i .c) (f .2))
+    effect-same other f = refl
 
     -- where the request goes on is a position of its program
     abbrev Lands : Act → Type 0
@@ -192,26 +189,27 @@ module _ (n : ℕ) (l : List ℕ) (i : Instr) where
     either true h e = h
     either false h e = ltb-true (i .b) n e
 
-    -- every code but 0 goes on, or asks
-    onward : (code : ℕ) → Fit (suc code) → next < n → Lands (effectAs (codeOf (suc code)) l i next .act)
+    -- where another instruction stands behind this one
+    onward : (code : Code) → Fit code → next < n → Lands (effectAs code l i next .act)
     unfolding effectAs
-    onward zero f h = h
-    onward (suc zero) f h = h
-    onward (suc (suc zero)) f h = h
-    onward (suc (suc (suc zero))) f h = h
-    onward (suc (suc (suc (suc zero)))) f h = either (eqb (local l (i .a)) 0) h (f .1)
-    onward (suc (suc (suc (suc (suc zero))))) f h = h
-    onward (suc (suc (suc (suc (suc (suc zero)))))) f h = h
-    onward (suc (suc (suc (suc (suc (suc (suc zero))))))) f h = h
-    onward (suc (suc (suc (suc (suc (suc (suc (suc zero)))))))) f h = h
-    onward (suc (suc (suc (suc (suc (suc (suc (suc (suc code))))))))) f h = h
+    onward reply f h = tt
+    onward constant f h = h
+    onward add f h = h
+    onward subtract f h = h
+    onward less f h = h
+    onward jump f h = either (eqb (local l (i .a)) 0) h (f .1)
+    onward read f h = h
+    onward write f h = h
+    onward get f h = h
+    onward put f h = h
+    onward other f h = h
 
-    -- only the last instruction has no next one, and its code is 0
-    lands : (code : ℕ) → Fit code → (ltb next n || eqb code 0) ≡ true → Lands (effectAs (codeOf code) l i next .act)
+    -- only the last has none behind it, and its code is 0
+    lands : (code : ℕ) → Fit (codeOf code) → (ltb next n || eqb code 0) ≡ true → Lands (effectAs (codeOf code) l i next .act)
     unfolding effectAs
     lands zero f e = tt
     lands (suc code) f e =
-        onward code f
+        onward (codeOf (suc code)) f
         (byBool (ltb next n) (ltb-true next n) (λ t. let g = rw (t, ne-eqb (suc code) 0 (λ d. absurd (omega arith))) at e in clash (cc)))
 
 -- ── a request as it goes on ──
@@ -238,7 +236,7 @@ module _ (p : Program) (g : KeepsAll p) where
       let f = fit (p .n) l i (rules .0) in
       let here : at % 64 ≡ at = omega (arith, h, g .few) in
       let e : instructions.effectOf l (instrAt (p .code) at) (at % 64 + 1) ≡ effectOf l i (at + 1) =
-      ap (λ j. instructions.effectOf l (getD (p .code) j noInstr) (j + 1)) here ∙ effect-same (p .n) l i (at + 1) (i .code) f in
+      ap (λ j. instructions.effectOf l (getD (p .code) j noInstr) (j + 1)) here ∙ effect-same (p .n) l i (at + 1) (codeOf (i .code)) f in
       subst (λ r. Same (p .n) r (go (suc k) (p .code) l at done))
       (sym (λ j. behind (here j ∷ [])
       (follow (e j .act) (e j .locals) (here j + 1) (done + 1) (λ m to. processes.go k (p .code) m to (done + 1)))))

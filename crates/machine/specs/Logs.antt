@@ -3,10 +3,11 @@ use Prim.Native.Nat.{ℕ, zero, suc}
 use mathlib.Core.Bool.{Bool, cond, _&&_}
 use mathlib.Core.List.{List, [], _∷_}
 use lib.Dec.{eqb}
+use Rattle.basics.specs.Firsts.{firsts}
 use Rattle.text.specs.declared.report.Entry.{Entry}
 use Rattle.text.specs.declared.report.Op.{Op}
-use Rattle.machine.specs.declared.objects.Cell.{Cell}
-use Rattle.machine.specs.declared.objects.Cell.the-variants.{Never, Put}
+use Rattle.cells.specs.declared.stores.Cell.{Cell}
+use Rattle.cells.specs.declared.stores.Cell.the-variants.{Never, Put}
 use Rattle.machine.specs.Objects.{Content, apply, isRegister, isWrite, isPut}
 
 -- the operation of each line
@@ -25,6 +26,10 @@ afterAll cs (l ∷ ls) = afterAll (after cs (l .op)) ls
 abbrev pub answersFrom : (ℕ → Content) → List Entry → List ℕ
 answersFrom cs [] = []
 answersFrom cs (l ∷ ls) = apply (l .op) (cs (l .op .object)) .0 ∷ answersFrom (after cs (l .op)) ls
+
+-- the answer of line i alone
+abbrev pub answerAt : (ℕ → Content) → (ℕ → Entry) → ℕ → ℕ
+answerAt cs line i = apply (line i .op) (afterAll cs (firsts line i) (line i .op .object)) .0
 
 -- whether a line is a write of an object, of a store at the key: one of kind 7 on a register, whatever its key, or of kind 9 on a store
 abbrev pub writes : (object key : ℕ) → Op → Bool

@@ -3,17 +3,18 @@ use Prim.Native.Nat.{ℕ}
 use mathlib.Core.Bool.{Bool, cond}
 use lib.Dec.{eqb, ltb}
 use Rattle.text.specs.declared.report.Op.{Op}
-use Rattle.machine.specs.declared.objects.Cell.{Cell}
-use Rattle.machine.specs.declared.objects.Cell.the-variants.{Never, Put}
+use Rattle.cells.specs.declared.stores.Cell.{Cell}
+use Rattle.cells.specs.declared.stores.Cell.the-variants.{Never, Put}
+use Rattle.machine.specs.Limits.{firstStore}
 
 -- a register has a value, a store a cell for each key
 pub data Content : Type 0 where
   register : ℕ → Content
   store : (ℕ → Cell) → Content
 
--- objects 0 to 7 are registers, the others are stores
+-- the objects below the first store are registers
 abbrev pub isRegister : ℕ → Bool
-isRegister object = ltb object 8
+isRegister object = ltb object firstStore
 
 -- the objects at the start: 0 in each register, no key put in any store
 abbrev pub atStart : ℕ → Content

@@ -4,6 +4,7 @@ use mathlib.Core.List.{List, [], _∷_, _++_}
 use mathlib.Core.Bool.{cond}
 use lib.Dec.{ltb}
 use lib.ListN.{getD, set}
+use Rattle.text.specs.Formats.{mostInstructions}
 use Rattle.text.specs.declared.programs.Instr.{Instr}
 use Rattle.text.specs.Programs.{noInstr}
 use Rattle.machine.specs.declared.instructions.Act.the-variants.{Goes, Asks, Replies}
@@ -20,10 +21,10 @@ firstLocals a b = a ∷ b ∷ 0 ∷ 0 ∷ 0 ∷ 0 ∷ 0 ∷ 0 ∷ []
 abbrev pub limit : ℕ
 limit = 256
 
--- The instruction at a position. Positions count modulo 64, the room for a program's instructions; the program rules keep a request from
+-- The instruction at a position. Positions count modulo the room for a program's instructions; the program rules keep a request from
 -- what stands behind the last.
 abbrev pub instrAt : List Instr → ℕ → Instr
-instrAt p at = getD p (at % 64) noInstr
+instrAt p at = getD p (at % mostInstructions) noInstr
 
 -- a request that has gone on: its locals, where it stands and what it came to, and the positions of the instructions carried out on the way
 pub record Advanced : Type 0 where
@@ -45,7 +46,7 @@ behind path r = advanced (r .locals) (r .stop) (path ++ r .path)
 unfoldable pub go : (k : ℕ) → List Instr → List ℕ → (at done : ℕ) → Advanced
 go zero p l at done = advanced l (stopAt at done Cut) []
 go (suc k) p l at done =
-    let here = at % 64 in
+    let here = at % mostInstructions in
     let e = effectOf l (instrAt p at) (here + 1) in
     behind (here ∷ [])
     (elim (e .act) [

@@ -1,46 +1,47 @@
--- The program rules, by a table with a row of fields for each code, and the first line that breaks one.
+-- The program rules, by the fields of each code, and the first line that breaks one.
 use Prim.Native.Nat.{ℕ, suc, zero, _+_}
 use mathlib.Core.List.{List, [], _∷_, _++_}
 use mathlib.Core.Bool.{Bool, true, _&&_, _||_, not}
 use mathlib.Core.Option.{Option, none, some}
-use lib.ListN.{getD, length}
+use lib.ListN.{getD}
 use lib.Dec.{leb, ltb, eqb}
+use Rattle.text.specs.Formats.{mostInstructions, mostObjects}
+use Rattle.text.specs.Codes.{Code, reply, constant, add, subtract, less, jump, read, write, get, put, other, codeOf, isCode}
 use Rattle.text.specs.declared.programs.Instr.{Instr}
 use Rattle.text.specs.declared.programs.Program.{Program}
 use Rattle.text.specs.Programs.{noInstr}
 use Rattle.model.specs.FirstBad.{firstBad}
+use Rattle.machine.specs.Limits.{firstStore, mostLocals}
 use Rattle.machine.specs.declared.rules.Field.{Field}
 use Rattle.machine.specs.declared.rules.Field.the-variants.{Unused, Constant, Local, Register, Store, Target}
 use Rattle.machine.specs.declared.rules.Fields.{Fields}
 use Rattle.machine.specs.declared.rules.Ruling.{Ruling}
 use Rattle.machine.specs.declared.rules.Ruling.the-variants.{Kept, Broken}
-use Rattle.machine.specs.Codes.{codes}
 
 abbrev pub fields : (a b c : Field) → Fields
 fields a b c = record { a = a; b = b; c = c }
 
--- what each field of each code names, from code 0 on
-abbrev pub rows : List Fields
-rows =
-    fields Local Unused Unused
-    ∷ fields Local Constant Unused
-    ∷ fields Local Local Local
-    ∷ fields Local Local Local
-    ∷ fields Local Local Local
-    ∷ fields Local Target Unused
-    ∷ fields Local Register Unused
-    ∷ fields Register Local Unused
-    ∷ fields Local Store Local
-    ∷ fields Store Local Local
-    ∷ []
+-- what each field of each code names
+abbrev pub fieldsOf : Code → Fields
+fieldsOf reply = fields Local Unused Unused
+fieldsOf constant = fields Local Constant Unused
+fieldsOf add = fields Local Local Local
+fieldsOf subtract = fields Local Local Local
+fieldsOf less = fields Local Local Local
+fieldsOf jump = fields Local Target Unused
+fieldsOf read = fields Local Register Unused
+fieldsOf write = fields Register Local Unused
+fieldsOf get = fields Local Store Local
+fieldsOf put = fields Store Local Local
+fieldsOf other = fields Unused Unused Unused
 
 -- a field may be v, in a program of n instructions
 abbrev pub fitsAs : Field → ℕ → ℕ → Bool
 fitsAs Unused n v = eqb v 0
 fitsAs Constant n v = true
-fitsAs Local n v = ltb v 8
-fitsAs Register n v = ltb v 8
-fitsAs Store n v = leb 8 v && ltb v 16
+fitsAs Local n v = ltb v mostLocals
+fitsAs Register n v = ltb v firstStore
+fitsAs Store n v = leb firstStore v && ltb v mostObjects
 fitsAs Target n v = ltb v n
 
 abbrev pub fitFields : Fields → ℕ → Instr → Bool
@@ -48,7 +49,7 @@ fitFields f n i = fitsAs (f .a) n (i .a) && (fitsAs (f .b) n (i .b) && fitsAs (f
 
 -- an instruction has a code, and its fields fit
 abbrev pub keepsFields : ℕ → Instr → Bool
-keepsFields n i = ltb (i .code) (length codes) && fitFields (getD rows (i .code) (fields Unused Unused Unused)) n i
+keepsFields n i = isCode (i .code) && fitFields (fieldsOf (codeOf (i .code))) n i
 
 -- A line of the programs text: that of program k, with its number and how many instructions it has, or that of instruction j of n.
 pub data Line : Type 0 where
@@ -65,9 +66,9 @@ abbrev pub linesFrom : (k : ℕ) → List Program → List Line
 linesFrom k [] = []
 linesFrom k (p ∷ ps) = program k (p .number) (p .n) ∷ instructionLines (p .n) 0 p ++ linesFrom (suc k) ps
 
--- a program's number is its place, and it has an instruction (a table that was read has 64 at most); the last instruction has code 0
+-- a program's number is its place, and it has an instruction (a table that was read has room for no more); the last instruction has code 0
 abbrev pub keepsRules : Line → Bool
-keepsRules (program k number n) = eqb number k && (not (eqb n 0) && leb n 64)
+keepsRules (program k number n) = eqb number k && (not (eqb n 0) && leb n mostInstructions)
 keepsRules (instruction j n i) = keepsFields n i && (ltb (j + 1) n || eqb (i .code) 0)
 
 -- Row 2: a program rule broken.

@@ -1,45 +1,41 @@
-// What the operations of a report's log answer, in one pass down its lines. A register's value is kept as it is written. For the stores the
-// puts are kept on chains, one for each bucket of keys, so that a get looks at few lines.
-use crate::codes::PUT;
-use crate::codes::WRITE;
-use crate::least;
+// The objects in arrays, as they are now, whatever they were at first: the registers' values, and the stores' cells. What an operation answers
+// and leaves, and what the operations of a report's log answer, one after the other.
+use crate::limits::FIRST_STORE;
+use crate::limits::REGISTERS;
+use basics::least;
+use cells::BUCKETS;
+use cells::CELL_ROWS;
+use cells::Cell;
+use cells::look;
+use cells::put;
+use text::ENTRIES;
+use text::ENTRY_ROWS;
 use text::Op;
+use text::PUT;
+use text::WRITE;
 use text::entry_at;
 ghost use mathlib.Core.Path.{_≡_};
-ghost use mathlib.Core.Bool.{_&&_};
 ghost use Prim.Native.Nat.{_%_, min};
-ghost use lib.Dec.{eqb};
 ghost use lib.ListN.{getD, set};
-ghost use lib.Seq.{sets};
+ghost use Rattle.basics.specs.Firsts.{firsts};
+ghost use Rattle.text.specs.Formats.{mostEntries};
 ghost use Rattle.text.specs.Held.{entryAt};
-ghost use Rattle.text.specs.Rows.{firsts};
-ghost use Rattle.machine.specs.Objects.{register, apply, valueOf, atStart};
-ghost use Rattle.machine.specs.Logs.{ops, answersFrom};
-ghost use Rattle.machine.specs.Index.{bucketOf, walk, registerLeft, stored, onStore, performed, performOf};
+ghost use Rattle.machine.specs.Limits.{firstStore};
+ghost use Rattle.machine.specs.Objects.{register, apply, valueOf};
+ghost use Rattle.machine.specs.Held.{objects, registerLeft, OnStore, Performs, AnswersAll};
+ghost use Rattle.machine.specs.Logs.{ops};
 
-// What a store holds at a key.
-pub enum Cell {
-    Never,
-    Put(u64),
+// An operation's answer, and how many cells are used behind it.
+pub struct Performed {
+    pub answer: u64,
+    pub used: usize,
 }
 
-fn op_at(logs: &[u64; 6144], i: usize) -> Op
+fn op_at(logs: &[u64; ENTRY_ROWS], i: usize) -> Op
     ensures { λ r. ⌜ r ≡ ops (entryAt (now (logs .entry))) i ⌝ }
 {
     let l = entry_at(logs, i);
     l.op
-}
-
-fn bucket(object: u64, key: u64) -> usize
-    ensures { λ r. ⌜ r ≡ bucketOf object key ⌝ }
-{
-    (key % 127 * 8 + object % 8) as usize
-}
-
-fn wide(x: u16) -> usize
-    ensures { λ r. ⌜ r ≡ x ⌝ }
-{
-    x as usize
 }
 
 fn value_of(c: Cell) -> u64
@@ -52,12 +48,12 @@ fn value_of(c: Cell) -> u64
 }
 
 // An operation on a register. The answer is the register's value, or 0 for a write.
-fn on_register(registers: &mut [u64; 8], x: Op) -> u64
-    ensures { λ r. ⌜ (r ≡ apply x (register (getD (now (registers .entry)) (x .object % 8) 0)) .0)
+fn on_register(registers: &mut [u64; REGISTERS], x: Op) -> u64
+    ensures { λ r. ⌜ (r ≡ apply x (register (getD (now (registers .entry)) (x .object % firstStore) 0)) .0)
         × (now (registers .exit)
-        ≡ set (now (registers .entry)) (x .object % 8) (registerLeft x (getD (now (registers .entry)) (x .object % 8) 0))) ⌝ }
+        ≡ set (now (registers .entry)) (x .object % firstStore) (registerLeft x (getD (now (registers .entry)) (x .object % firstStore) 0))) ⌝ }
 {
-    let o = (x.object % 8) as usize;
+    let o = (x.object % FIRST_STORE) as usize;
     if x.kind == WRITE {
         registers[o] = x.value;
         return 0;
@@ -65,95 +61,67 @@ fn on_register(registers: &mut [u64; 8], x: Op) -> u64
     registers[o]
 }
 
-fn is_at(x: Op, object: u64, key: u64) -> bool
-    ensures { λ r. ⌜ r ≡ (eqb (x .object) object && eqb (x .key) key) ⌝ }
-{
-    if x.object == object {
-        x.key == key
-    } else {
-        false
-    }
-}
-
-// The nearest put of a key on a chain, from the line `from` on. No chain has more than 1,024 lines.
-fn nearest_put(
-    logs: &[u64; 6144],
-    befores: &[u16; 1024],
-    from: usize,
-    object: u64,
-    key: u64,
-) -> Cell
-    ensures { λ r. ⌜ r ≡ walk (ops (entryAt (now (logs .entry)))) (now (befores .entry)) object key 1024 from ⌝ }
-{
-    let mut j = from;
-    let mut left: usize = 1024;
-    while 0 < left {
-        if j == 0 {
-            return Cell::Never;
-        }
-        let x = op_at(logs, j - 1);
-        if is_at(x, object, key) {
-            return Cell::Put(x.value);
-        }
-        j = wide(befores[(j - 1) % 1024]);
-        left -= 1;
-    }
-    Cell::Never
-}
-
-// Line n, which is x, an operation on a store. A put becomes the head of its bucket's chain.
+// An operation on a store.
 fn on_store(
-    logs: &[u64; 6144],
-    n: usize,
+    cells: &mut [u64; CELL_ROWS],
+    buckets: &mut [u16; BUCKETS],
+    used: usize,
     x: Op,
-    heads: &mut [u16; 1016],
-    befores: &mut [u16; 1024],
-) -> u64
-    ensures { λ r. ⌜ stored r (now (heads .exit)) (now (befores .exit))
-        ≡ onStore (ops (entryAt (now (logs .entry)))) n x (now (heads .entry)) (now (befores .entry)) ⌝ }
+) -> Performed
+    ensures { λ r. ⌜ OnStore (now (cells .entry)) (now (buckets .entry)) used x (now (cells .exit)) (now (buckets .exit))
+        (r .used) (r .answer) ⌝ }
 {
-    let b = bucket(x.object, x.key);
-    let head = heads[b];
     if x.kind == PUT {
-        let latest = (n % 1024 + 1) as u16;
-        befores[n % 1024] = head;
-        heads[b] = latest;
-        return 0;
+        let n = put(cells, buckets, used, x.object, x.key, x.value);
+        return Performed { answer: 0, used: n };
     }
-    value_of(nearest_put(logs, befores, wide(head), x.object, x.key))
+    let c = look(cells, buckets, x.object, x.key);
+    Performed {
+        answer: value_of(c),
+        used,
+    }
 }
 
-// The operation of line n on the objects as the lines above it left them in the arrays, which are all 0 before the first line.
+// An operation on the objects that the arrays hold.
 pub fn perform(
-    logs: &[u64; 6144],
-    n: usize,
-    registers: &mut [u64; 8],
-    heads: &mut [u16; 1016],
-    befores: &mut [u16; 1024],
-) -> u64
-    ensures { λ r. ⌜ performed (now (registers .exit)) (stored r (now (heads .exit)) (now (befores .exit)))
-        ≡ performOf (ops (entryAt (now (logs .entry)))) n (now (registers .entry)) (now (heads .entry)) (now (befores .entry)) ⌝ }
+    x: Op,
+    registers: &mut [u64; REGISTERS],
+    cells: &mut [u64; CELL_ROWS],
+    buckets: &mut [u16; BUCKETS],
+    used: usize,
+) -> Performed
+    ensures { λ r. ⌜ Performs (objects (now (registers .entry)) (now (cells .entry)) (now (buckets .entry)) used) x
+        (objects (now (registers .exit)) (now (cells .exit)) (now (buckets .exit)) (r .used)) (r .answer) ⌝ }
 {
-    let x = op_at(logs, n);
-    if x.object < 8 {
-        return on_register(registers, x);
+    if x.object < FIRST_STORE {
+        let v = on_register(registers, x);
+        return Performed { answer: v, used };
     }
-    on_store(logs, n, x, heads, befores)
+    on_store(cells, buckets, used, x)
 }
 
-// The answers of the first n lines, at most 1,024, to the front of `out`.
-pub fn answers(logs: &[u64; 6144], n: usize, out: &mut [u64; 1024])
-    ensures { λ _. ⌜ now (out .exit)
-        ≡ sets (now (out .entry)) 0 (answersFrom atStart (firsts (entryAt (now (logs .entry))) (min n 1024))) ⌝ }
+// The answers of the first n lines, at most ENTRIES, to the front of `out`; how many cells are used behind them.
+pub fn answers(
+    logs: &[u64; ENTRY_ROWS],
+    n: usize,
+    registers: &mut [u64; REGISTERS],
+    cells: &mut [u64; CELL_ROWS],
+    buckets: &mut [u16; BUCKETS],
+    used: usize,
+    out: &mut [u64; ENTRIES],
+) -> usize
+    ensures { λ r. ⌜ AnswersAll (objects (now (registers .entry)) (now (cells .entry)) (now (buckets .entry)) used)
+        (firsts (entryAt (now (logs .entry))) (min n mostEntries)) (now (out .entry))
+        (objects (now (registers .exit)) (now (cells .exit)) (now (buckets .exit)) r) (now (out .exit)) ⌝ }
 {
-    let count = least(n, 1024);
-    let mut registers = [0u64; 8];
-    let mut heads = [0u16; 1016];
-    let mut befores = [0u16; 1024];
+    let count = least(n, ENTRIES);
+    let mut used = used;
     let mut i: usize = 0;
     while i < count {
-        let v = perform(logs, i, &mut registers, &mut heads, &mut befores);
-        out[i] = v;
+        let r = perform(op_at(logs, i), registers, cells, buckets, used);
+        out[i] = r.answer;
+        used = r.used;
         i += 1;
     }
+    used
 }

@@ -1,11 +1,19 @@
 // The program rules: the first line of the programs text that breaks one.
-use crate::least;
+use crate::limits::FIRST_STORE;
+use crate::limits::LOCAL_NUMBERS;
+use basics::least;
+use text::CODES;
+use text::INSTRUCTIONS;
 use text::Instr;
+use text::OBJECTS;
+use text::PROGRAMS;
 use text::Programs;
+use text::REPLY;
 ghost use mathlib.Core.Path.{_≡_};
 ghost use Prim.Native.Nat.{_<_, min};
+ghost use Rattle.basics.specs.Firsts.{firsts};
+ghost use Rattle.text.specs.Formats.{mostPrograms};
 ghost use Rattle.text.specs.Held.{programAt};
-ghost use Rattle.text.specs.Rows.{firsts};
 ghost use Rattle.machine.specs.Rules.{fitsAs, keepsFields, program, instruction, keepsRules, row2, brokenLine};
 
 // What a field of an instruction names.
@@ -31,7 +39,7 @@ pub enum Ruling {
 }
 
 // The fields of each code.
-const FIELDS: [Fields; 10] = [
+const FIELDS: [Fields; CODES] = [
     Fields {
         a: Field::Local,
         b: Field::Unused,
@@ -91,9 +99,9 @@ fn fits(f: Field, v: u64, n: u64) -> bool
     match f {
         Field::Unused => v == 0,
         Field::Constant => true,
-        Field::Local => v < 8,
-        Field::Register => v < 8,
-        Field::Store => { if v < 8 { false } else { v < 16 } }
+        Field::Local => v < LOCAL_NUMBERS,
+        Field::Register => v < FIRST_STORE,
+        Field::Store => { if v < FIRST_STORE { false } else { v < OBJECTS } }
         Field::Target => v < n,
     }
 }
@@ -103,7 +111,7 @@ fn keeps(i: Instr, n: u64) -> bool
     ensures { λ r. ⌜ r ≡ keepsFields n i ⌝ }
 {
     let code = i.code;
-    if 10 <= code {
+    if CODES as u64 <= code {
         return false;
     }
     let f = FIELDS[code as usize];
@@ -124,7 +132,7 @@ fn head_keeps(number: u64, n: usize, k: usize) -> bool
     ensures { λ r. ⌜ r ≡ keepsRules (program k number n) ⌝ }
 {
     if number == k as u64 {
-        if n == 0 { false } else { n <= 64 }
+        if n == 0 { false } else { n <= INSTRUCTIONS }
     } else {
         false
     }
@@ -136,7 +144,7 @@ fn body_keeps(i: Instr, j: usize, n: usize) -> bool
     ensures { λ r. ⌜ r ≡ keepsRules (instruction j n i) ⌝ }
 {
     if keeps(i, n as u64) {
-        if j + 1 < n { true } else { i.code == 0 }
+        if j + 1 < n { true } else { i.code == REPLY }
     } else {
         false
     }
@@ -144,9 +152,9 @@ fn body_keeps(i: Instr, j: usize, n: usize) -> bool
 
 // Every line of the text is a `program` or a `do`, so the programs' counts give the line.
 pub fn check_rules(ps: Programs) -> Ruling
-    ensures { λ r. ⌜ brokenLine r ≡ row2 (firsts (programAt (ps .table)) (min (ps .n) 16)) ⌝ }
+    ensures { λ r. ⌜ brokenLine r ≡ row2 (firsts (programAt (ps .table)) (min (ps .n) mostPrograms)) ⌝ }
 {
-    let count = least(ps.n, 16);
+    let count = least(ps.n, PROGRAMS);
     let mut line: usize = 1;
     let mut k: usize = 0;
     'table: while k < count {

@@ -4,10 +4,11 @@ use mathlib.Core.List.{List, [], _∷_}
 use mathlib.Core.Path.{_≡_, ap, _∙_}
 use Prim.Native.Nat.{ℕ, suc}
 use lib.Dec.{eqb}
+use Rattle.basics.specs.Maps.{upd}
+use Rattle.basics.proofs.Maps.{upd-same, upd-other}
+use Rattle.basics.proofs.Tests.{clash, byBool, same-or, and-true, yes-eqb, eqb-self}
 use Rattle.text.specs.declared.report.Entry.{Entry}
 use Rattle.text.specs.declared.report.Op.{Op}
-use Rattle.ordering.specs.Maps.{upd}
-use Rattle.ordering.proofs.Basics.{clash, byBool, same-or, and-true, yes-eqb, eqb-self, upd-same, upd-other}
 use Rattle.model.specs.Batch.{logOf, claims, claimed, Node, ln}
 use Rattle.model.specs.Machine.{Machine, shown, applied}
 use Rattle.model.specs.PlainRun.{State, lineNow, operated}

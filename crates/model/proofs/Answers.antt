@@ -6,10 +6,10 @@ use mathlib.Core.Path.{_≡_, refl, sym, ap, ap₂, _∙_}
 use Prim.Native.Nat.{ℕ, zero, suc, _+_}
 use lib.Dec.{eqb}
 use native.Mathlib.Omega.{arith}
+use Rattle.basics.specs.Count.{count}
+use Rattle.basics.proofs.Tests.{byBool, and-true, yes-eqb, eqb-self}
 use Rattle.text.specs.declared.report.Op.{Op}
-use Rattle.ordering.specs.Lists.{tally}
-use Rattle.ordering.proofs.Basics.{byBool, and-true, yes-eqb, eqb-self}
-use Rattle.ordering.proofs.Lanes.{tally-lanes}
+use Rattle.ordering.proofs.Lanes.{count-lanes}
 use Rattle.model.specs.Allowed.{Allowed}
 use Rattle.model.specs.Answers.{answerOf, loggedAnswer}
 use Rattle.model.specs.Batch.{Batch, claims, Node, ev, ln}
@@ -39,11 +39,11 @@ module _ (M : Machine) where
 
   module _ (F : ℕ → ℕ → Claim M) (r k : ℕ) where
     abbrev Tells : List Node → State M → Type 0
-    Tells ys s = answerOf M r k (map itemOf ys) s ≡ told (tally (does r k) ys) (F r k)
+    Tells ys s = answerOf M r k (map itemOf ys) s ≡ told (count (does r k) ys) (F r k)
 
     -- events count for nothing
-    skip : (ys : List Node) (s : State M) → Tells ys s → answerOf M r k (map itemOf ys) s ≡ told (0 + tally (does r k) ys) (F r k)
-    skip ys s ih = let i : 0 + tally (does r k) ys ≡ tally (does r k) ys = omega arith in rw i ih
+    skip : (ys : List Node) (s : State M) → Tells ys s → answerOf M r k (map itemOf ys) s ≡ told (0 + count (does r k) ys) (F r k)
+    skip ys s ih = let i : 0 + count (does r k) ys ≡ count (does r k) ys = omega arith in rw i ih
 
     -- the operation of a line
     told-line : (s : State M) (ys : List Node) (q n : ℕ) (p : Process) (o : Op) → s .phase q ≡ opened p n → advance p ≡ op o →
@@ -54,11 +54,11 @@ module _ (M : Machine) where
         let g = and-true (eqb q r) (eqb (suc n) k) e in
         let i : q ≡ r = yes-eqb (g .0) in
         let j : suc n ≡ k = yes-eqb (g .1) in
-        let once : 1 + tally (does r k) ys ≡ suc (tally (does r k) ys) = omega arith in
+        let once : 1 + count (does r k) ys ≡ suc (count (does r k) ys) = omega arith in
         let same = ap (λ z. some (z .0)) (sym (M .logged-apply o (s .contents (o .object)))) in
         rw (e, f, d, once, ap₂ F (sym i) (sym j) ∙ c) same)
         (λ e.
-        let none-here : 0 + tally (does r k) ys ≡ tally (does r k) ys = omega arith in
+        let none-here : 0 + count (does r k) ys ≡ count (does r k) ys = omega arith in
         rw (e, f, d, eqb-self (suc n), none-here) ih)
 
     answers-told : {ys : List Node} {s t : State M} → Runs M ys s t → Ahead M F s ys → Tells ys s
@@ -71,7 +71,7 @@ module _ (M : Machine) where
         told-line s ys q n p o f d (next .0) (answers-told h (next .1))
 
   -- an operation that stands nowhere is not claimed
-  told-claim : (opening : ℕ → Content) (b : Batch) (r k n : ℕ) → tally (does r k) (nodes b) ≡ n →
+  told-claim : (opening : ℕ → Content) (b : Batch) (r k n : ℕ) → count (does r k) (nodes b) ≡ n →
       told n (claim M (b .log) opening r k) ≡ loggedAnswer M (claim M (b .log) opening r k)
   told-claim opening b r k zero e =
       rw (claim-none M (b .log) opening r k (none-claimed (does r k) r k (λ l. refl) (b .log) (map ev (b .trace)) e))
@@ -84,5 +84,5 @@ module _ (M : Machine) where
       let F = claim M (b .log) opening in
       ap (λ xs. answerOf M r k xs (initial M opening)) (sym (p .order))
       ∙ answers-told F r k (p .runs) (placed-ahead M opening b a p)
-      ∙ ap (λ n. told n (F r k)) (tally-lanes lane (does r k) (p .items) (nodes b) (p .placed .lanes))
-      ∙ told-claim opening b r k (tally (does r k) (nodes b)) refl
+      ∙ ap (λ n. told n (F r k)) (count-lanes lane (does r k) (p .items) (nodes b) (p .placed .lanes))
+      ∙ told-claim opening b r k (count (does r k) (nodes b)) refl

@@ -7,11 +7,11 @@ use mathlib.Core.Path.{_≡_, refl, sym, ap, _∙_}
 use Prim.Native.Nat.{ℕ, suc}
 use lib.Dec.{eqb}
 use native.Mathlib.Omega.{arith}
+use Rattle.basics.specs.Lists.{All}
 use Rattle.text.specs.declared.report.Of.{Of}
 use Rattle.text.specs.Report.{Report}
 use Rattle.text.specs.Text.{readable}
 use Rattle.text.specs.declared.trace.Event.{Event}
-use Rattle.ordering.specs.Lists.{All}
 use Rattle.model.specs.Audit.{leftOver, replayChecks, from9, from4, audit}
 use Rattle.model.specs.Requests.{row4, row4Open, row6}
 use Rattle.model.specs.Claims.{row7, row8, NoneTo8}

@@ -21,17 +21,18 @@ use mathlib.Core.Logic.{_⊎_, inl, inr, ⊎-elim, _↔_}
 use mathlib.Core.Path.{_≡_, refl, sym, ap, ap₂, subst, _∙_}
 use Prim.Native.Nat.{ℕ, suc, _≤_}
 use native.Mathlib.Omega.{arith}
+use Rattle.basics.specs.Lists.{All, Neighbours, Later}
+use Rattle.basics.specs.Count.{count}
+use Rattle.basics.specs.Chain.{one, more}
+use Rattle.basics.proofs.Lists.{all-append, all-append-left, all-append-right, all-map, all-any, mem-all, count-append, later-front}
+use Rattle.basics.proofs.Chains.{chain-map}
 use Rattle.text.specs.declared.trace.Event.{Event}
 use Rattle.ordering.specs.Before.{ComesBefore, events, logged, next}
-use Rattle.ordering.specs.Chain.{one, more}
 use Rattle.ordering.specs.FirstFree.{Waits, FirstFree, Greedy}
-use Rattle.ordering.specs.Lists.{All, tally, Neighbours, Later}
 use Rattle.ordering.specs.Order.{onLane}
 use Rattle.ordering.specs.Whole.{keyed}
-use Rattle.ordering.proofs.Chains.{chain-map}
 use Rattle.ordering.proofs.Lanes.{on-mem}
-use Rattle.ordering.proofs.Lists.{all-append, all-append-left, all-append-right, all-map, all-any, mem-all, tally-append, later-front}
-use Rattle.ordering.proofs.Numbers.{keyed-self, mem-tally}
+use Rattle.ordering.proofs.Numbers.{keyed-self, mem-count}
 use Rattle.ordering.proofs.Weaker.{later-chain}
 use Rattle.model.specs.Batch.{Batch, countOf, Node, ev, ln}
 use Rattle.model.specs.ByRule.{IsItem, traced, logged, MayCome, GoesFirst, overEvent, above, Next, ByRuleFrom, ByRule}
@@ -116,8 +117,8 @@ module _ (b : Batch) (f : Formed b) (h : Reported b) where
   abbrev key : Node → Node → Bool
   key x = keyed rid (num cnt) (rid x) (num cnt x)
 
-  lines-once : (x : Node) → tally (key x) lines ≤ 1
-  lines-once x = omega (arith, tally-append (key x) lines (map ev (b .trace)), whole b f h .once (rid x) (num cnt x))
+  lines-once : (x : Node) → count (key x) lines ≤ 1
+  lines-once x = omega (arith, count-append (key x) lines (map ev (b .trace)), whole b f h .once (rid x) (num cnt x))
 
   -- no operation is claimed twice, so no two lines stand each above the other
   not-around : (x y : Node) → Later lines x y → Later lines y x → ⊥
@@ -127,10 +128,10 @@ module _ (b : Batch) (f : Formed b) (h : Reported b) where
       let n : List·Memᴰ y (x ∷ rest) = List·Memᴰ·tail (Memᴰ·append-right (p .between) (List·Memᴰ·head refl)) in
       omega (
         arith,
-        subst (λ t. tally (key y) t ≤ 1) (p .split) (lines-once y),
-        tally-append (key y) (p .front) (x ∷ rest),
-        mem-tally rid (num cnt) (p .front) y m,
-        mem-tally rid (num cnt) (x ∷ rest) y n,
+        subst (λ t. count (key y) t ≤ 1) (p .split) (lines-once y),
+        count-append (key y) (p .front) (x ∷ rest),
+        mem-count rid (num cnt) (p .front) y m,
+        mem-count rid (num cnt) (x ∷ rest) y n,
       )
 
   not-both : (x y : Node) → GoesFirst b x y → GoesFirst b y x → ⊥

@@ -6,6 +6,8 @@ use mathlib.Core.Path.{_≡_, refl}
 use Prim.Native.Nat.{ℕ, _<_}
 use lib.Dec.{ltb}
 use native.Mathlib.Omega.{arith}
+use Rattle.basics.specs.Lists.{All}
+use Rattle.basics.specs.Maps.{upd}
 use Rattle.text.specs.declared.report.Entry.{Entry}
 use Rattle.text.specs.declared.report.Of.{Of}
 use Rattle.text.specs.declared.report.Op.{Op}
@@ -13,8 +15,6 @@ use Rattle.text.specs.declared.schedule.Move.the-variants.{Arrive, Turn}
 use Rattle.text.specs.declared.schedule.Move.{Move}
 use Rattle.text.specs.declared.trace.Event.the-variants.{Request, Response}
 use Rattle.text.specs.declared.trace.Event.{Event}
-use Rattle.ordering.specs.Lists.{All}
-use Rattle.ordering.specs.Maps.{upd}
 use Rattle.ordering.specs.Merge.{bump}
 use Rattle.model.specs.Audit.{audit}
 use Rattle.model.specs.Batch.{Batch, ev, ln}

@@ -9,14 +9,14 @@ use borrow.Author.Tests.{ltb-false, le-ltb}
 use lib.Dec.{eqb, ltb}
 use lib.ListN.{length}
 use native.Mathlib.Omega.{arith}
+use Rattle.basics.specs.Lists.{All}
+use Rattle.basics.proofs.Lists.{all-any}
+use Rattle.basics.proofs.Tests.{byBool, byEq, and-true, no-eqb, eqb-yes, eqb-no, false-or, not-false}
 use Rattle.text.specs.declared.report.Entry.{Entry}
 use Rattle.text.specs.declared.report.Of.{Of}
-use Rattle.ordering.specs.Lists.{All}
-use Rattle.ordering.proofs.Basics.{byBool, byEq, and-true, no-eqb, eqb-yes, eqb-no}
-use Rattle.ordering.proofs.Lists.{all-any}
 use Rattle.model.specs.Claims.{bad7, row7, allClaimed, bad8, row8}
 use Rattle.model.specs.Batch.{Batch, named, countOf, claims, claimed}
-use Rattle.model.proofs.Scans.{false-or, not-false, Clean, scan-clean, clean-scan}
+use Rattle.model.proofs.Scans.{Clean, scan-clean, clean-scan}
 
 -- a line's number is one of its request's operations
 pub record Counted (count : ℕ → ℕ) (l : Entry) : Type 0 where

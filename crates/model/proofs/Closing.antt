@@ -2,9 +2,10 @@
 use mathlib.Core.List.{List, _∷_}
 use mathlib.Core.Path.{_≡_, refl, sym, ap, _∙_}
 use Prim.Native.Nat.{ℕ, suc}
+use Rattle.basics.specs.Maps.{upd}
+use Rattle.basics.proofs.Maps.{upd-same, upd-other}
+use Rattle.basics.proofs.Tests.{same-or, eqb-self}
 use Rattle.text.specs.declared.report.Op.{Op}
-use Rattle.ordering.specs.Maps.{upd}
-use Rattle.ordering.proofs.Basics.{same-or, eqb-self, upd-same, upd-other}
 use Rattle.model.specs.Allowed.{Allowed}
 use Rattle.model.specs.Answers.{written}
 use Rattle.model.specs.Batch.{Batch, logOf, Node, ln}

@@ -8,14 +8,15 @@ use Prim.Native.Nat.{ℕ, zero, suc, _+_, _≤_, _<_}
 use lib.Dec.{eqb}
 use lib.ListN.{length}
 use native.Mathlib.Omega.{arith}
+use Rattle.basics.specs.Lists.{All}
+use Rattle.basics.specs.Maps.{upd}
+use Rattle.basics.proofs.Lists.{all-append-left, all-unmap, all-mem}
+use Rattle.basics.proofs.Maps.{upd-same, upd-at, upd-other}
+use Rattle.basics.proofs.Tests.{clash, byBool, byEq, same-or}
 use Rattle.text.specs.declared.report.Entry.{Entry}
 use Rattle.text.specs.declared.report.Of.{Of}
 use Rattle.text.specs.declared.report.Op.{Op}
-use Rattle.ordering.specs.Lists.{All}
-use Rattle.ordering.specs.Maps.{upd}
-use Rattle.ordering.proofs.Basics.{clash, byBool, byEq, same-or, upd-same, upd-at, upd-other}
 use Rattle.ordering.proofs.Lanes.{all-lanes}
-use Rattle.ordering.proofs.Lists.{all-append-left, all-unmap, all-mem}
 use Rattle.ordering.proofs.Orders.{order-merge}
 use Rattle.model.specs.Allowed.{Allowed}
 use Rattle.model.specs.Batch.{Batch, countOf, firstOf, claims, claimed, Node, ev, ln}

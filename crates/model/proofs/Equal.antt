@@ -4,8 +4,8 @@ use mathlib.Core.List.{List, [], _∷_}
 use mathlib.Core.Path.{_≡_, refl}
 use Prim.Native.Nat.{ℕ}
 use lib.Dec.{eqb}
+use Rattle.basics.proofs.Tests.{clash, and-true, yes-eqb, eqb-self}
 use Rattle.text.specs.declared.report.Op.{Op}
-use Rattle.ordering.proofs.Basics.{clash, and-true, yes-eqb, eqb-self}
 use Rattle.model.specs.Audit.{sameReply, samePath}
 use Rattle.model.specs.Replay.{sameOp, Reply, silent, said}
 

@@ -7,10 +7,12 @@ use Prim.Native.Nat.{ℕ, zero, suc, _+_, _^_, _≤_, _<_}
 use lib.Dec.{eqb}
 use lib.ListN.{getD, length}
 use native.Mathlib.Omega.{arith}
+use Rattle.basics.specs.Lists.{All}
+use Rattle.basics.specs.Maps.{upd}
+use Rattle.basics.proofs.Lists.{all-getD}
+use Rattle.basics.proofs.Maps.{upd-at, upd-other}
+use Rattle.basics.proofs.Tests.{clash, byBool, byEq}
 use Rattle.text.specs.declared.report.Op.{Op}
-use Rattle.ordering.specs.Lists.{All}
-use Rattle.ordering.specs.Maps.{upd}
-use Rattle.ordering.proofs.Basics.{clash, byBool, byEq, upd-at, upd-other}
 use Rattle.model.specs.Bounds.{Within, Bounded}
 use Rattle.model.specs.Machine.{Next, op, stop, Machine}
 
@@ -44,11 +46,6 @@ next-stop [] i v s w e = (cc, cc)
 next-stop (x ∷ os) zero v s w e = clash (cc)
 next-stop (x ∷ os) (suc i) v s w e = next-stop os i v s w e
 
-all-getD : {A : Type 0} (P : A → Type 0) (xs : List A) (k : ℕ) (d : A) → All P xs → P d → P (getD xs k d)
-all-getD P [] k d h p = p
-all-getD P (x ∷ xs) zero d h p = h .0
-all-getD P (x ∷ xs) (suc k) d h p = all-getD P xs k d (h .1) p
-
 abbrev pub Word : ℕ → Type 0
 Word n = n < 2 ^ 64
 
@@ -79,7 +76,7 @@ module _ (programs : List (List Op)) where
 
   module _ (fit : All FitProgram programs) where
     program-fit : (prog : ℕ) → FitProgram (program prog)
-    program-fit prog = all-getD FitProgram programs prog [] fit (omega arith, tt)
+    program-fit prog = all-getD FitProgram [] (omega arith, tt) programs fit prog
 
     pub within : Within machine 16
     within p o e = next-mem FitOp (program (p .prog)) (p .at) (p .last) o (program-fit (p .prog) .1) e .0 .0

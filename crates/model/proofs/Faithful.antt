@@ -8,13 +8,14 @@ use Prim.Native.Nat.{ℕ, suc, _≤_, _<_}
 use borrow.Author.Tests.{ltb-true, ltb-false}
 use lib.Dec.{eqb, ltb}
 use native.Mathlib.Omega.{arith}
+use Rattle.basics.specs.Lists.{All}
+use Rattle.basics.specs.Maps.{upd}
+use Rattle.basics.proofs.Lists.{all-append}
+use Rattle.basics.proofs.Maps.{upd-at, upd-other}
+use Rattle.basics.proofs.Tests.{clash, byBool, byEq, eqb-self}
 use Rattle.text.specs.declared.report.Op.{Op}
 use Rattle.text.specs.declared.trace.Event.the-variants.{Request, Response}
 use Rattle.text.specs.declared.trace.Event.{Event}
-use Rattle.ordering.specs.Lists.{All}
-use Rattle.ordering.specs.Maps.{upd}
-use Rattle.ordering.proofs.Basics.{clash, byBool, byEq, eqb-self, upd-at, upd-other}
-use Rattle.ordering.proofs.Lists.{all-append}
 use Rattle.model.specs.Allowed.{eventsOf, Allowed}
 use Rattle.model.specs.Batch.{requested, answered, firstOf}
 use Rattle.model.specs.Host.{logsFrom, ofsFrom}

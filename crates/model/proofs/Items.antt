@@ -22,13 +22,14 @@ use mathlib.Core.Path.{_≡_, refl, sym, ap, subst, subst₂, _∙_}
 use Prim.Native.Nat.{ℕ, zero, suc, _≤_}
 use lib.Dec.{eqb, eqb·suc-zero, eqb·zero-suc}
 use native.Mathlib.Omega.{arith}
+use Rattle.basics.specs.Lists.{All, Later}
+use Rattle.basics.specs.Count.{count}
+use Rattle.basics.proofs.Lists.{mem-all, count-append}
+use Rattle.basics.proofs.Tests.{clash, byBool, byEq, and-true, yes-eqb, eqb-no}
 use Rattle.text.specs.declared.report.Entry.{Entry}
 use Rattle.text.specs.declared.trace.Event.the-variants.{Request, Response}
 use Rattle.text.specs.declared.trace.Event.{Event}
-use Rattle.ordering.specs.Lists.{All, tally, Later}
 use Rattle.ordering.specs.Whole.{keyed, Whole}
-use Rattle.ordering.proofs.Basics.{clash, byBool, byEq, and-true, yes-eqb, eqb-no}
-use Rattle.ordering.proofs.Lists.{mem-all, tally-append}
 use Rattle.model.specs.Batch.{Batch, requested, answered, countOf, claims, claimed, Node, ev, ln}
 use Rattle.model.specs.Nodes.{lane, rid, num, nodes}
 use Rattle.model.proofs.Claims.{Counted, Unique, Full, Reported, counted-mem}
@@ -41,7 +42,7 @@ use Rattle.model.proofs.Trace.{InOrder, Formed}
 module _ (cnt : ℕ → ℕ) where
   -- how many items have the number k in request r
   abbrev times : ℕ → ℕ → List Node → ℕ
-  times r k ys = tally (keyed rid (num cnt) r k) ys
+  times r k ys = count (keyed rid (num cnt) r k) ys
 
   times-unclaimed : (r k : ℕ) (ls : List Entry) → claimed ls r k ≡ false → times r k (map ln ls) ≡ 0
   times-unclaimed r k [] e = refl
@@ -112,12 +113,12 @@ module _ (cnt : ℕ → ℕ) where
       times r k (map ln ls ++ map ev es) ≤ 1
   once es ls o h u r zero = omega (
     arith,
-    tally-append (keyed rid (num cnt) r 0) (map ln ls) (map ev es),
+    count-append (keyed rid (num cnt) r 0) (map ln ls) (map ev es),
     times-beyond r 0 ls h (λ p. omega (arith, p .0)),
     times-requests r [] es o,
   )
   once es ls o h u r (suc k) =
-      let sum = tally-append (keyed rid (num cnt) r (suc k)) (map ln ls) (map ev es) in
+      let sum = count-append (keyed rid (num cnt) r (suc k)) (map ln ls) (map ev es) in
       byEq k (cnt r)
       (λ p _. omega (arith, sum, times-beyond r (suc k) ls h (λ q. omega (arith, q .1)), times-responses r k [] es o))
       (λ p _. omega (arith, sum, times-lines r (suc k) ls u, times-between r k es p))

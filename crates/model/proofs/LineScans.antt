@@ -6,7 +6,7 @@ use mathlib.Core.Path.{_≡_, refl, sym, ap, _∙_}
 use Prim.Native.Nat.{ℕ, zero, suc, _+_, _-_, _<_, _≤_}
 use native.Mathlib.Numerals.{add-one}
 use native.Mathlib.Omega.{arith}
-use Rattle.text.specs.Rows.{firsts}
+use Rattle.basics.specs.Firsts.{firsts}
 use Rattle.model.specs.FirstBad.{firstBad}
 
 module _ {A : Type 0} (f : ℕ → A) where

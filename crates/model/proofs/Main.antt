@@ -4,9 +4,9 @@ use mathlib.Core.List.{List, map}
 use mathlib.Core.Logic.{_↔_}
 use mathlib.Core.Path.{_≡_}
 use Prim.Native.Nat.{ℕ}
+use Rattle.basics.specs.Lists.{All}
 use Rattle.text.specs.declared.schedule.Move.{Move}
 use Rattle.ordering.specs.FirstFree.{Greedy}
-use Rattle.ordering.specs.Lists.{All}
 use Rattle.model.specs.Allowed.{Allowed}
 use Rattle.model.specs.Answers.{written, answerOf, loggedAnswer}
 use Rattle.model.specs.Audit.{audit}

@@ -1,8 +1,8 @@
 -- Neighbours and later items of a list, when all its items are mapped.
 use mathlib.Core.List.{List, [], _∷_, _++_, map, map-append}
 use mathlib.Core.Path.{_≡_, refl, ap, _∙_}
-use Rattle.ordering.specs.Lists.{Neighbours, Later}
-use Rattle.ordering.proofs.Basics.{clash}
+use Rattle.basics.specs.Lists.{Neighbours, Later}
+use Rattle.basics.proofs.Tests.{clash}
 
 module _ {A B : Type 0} (f : A → B) where
   -- two values that come from items of which T holds

@@ -4,10 +4,10 @@ use mathlib.Core.List.{List, [], _∷_, _++_, map}
 use mathlib.Core.Path.{_≡_, refl, sym, ap, _∙_}
 use Prim.Native.Nat.{ℕ, zero, suc}
 use lib.Dec.{eqb, eqb·suc-suc, eqb·suc-zero, eqb·zero-suc}
+use Rattle.basics.proofs.Tests.{byBool}
 use Rattle.text.specs.declared.report.Entry.{Entry}
 use Rattle.text.specs.declared.trace.Event.{Event}
 use Rattle.ordering.specs.Order.{onLane}
-use Rattle.ordering.proofs.Basics.{byBool}
 use Rattle.model.specs.Allowed.{eventsOf}
 use Rattle.model.specs.Batch.{Batch, logOf, Node, ev, ln}
 use Rattle.model.specs.Nodes.{lane, nodes}

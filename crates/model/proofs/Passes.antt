@@ -5,9 +5,9 @@ use mathlib.Core.Logic.{_↔_}
 use mathlib.Core.Option.{none}
 use mathlib.Core.Path.{_≡_, refl, ap}
 use Prim.Native.Nat.{ℕ, suc}
+use Rattle.basics.specs.Lists.{All}
+use Rattle.basics.proofs.Tests.{clash, not-false}
 use Rattle.text.specs.declared.report.Of.{Of}
-use Rattle.ordering.specs.Lists.{All}
-use Rattle.ordering.proofs.Basics.{clash}
 use Rattle.model.specs.Audit.{leftOver, sameReply, bad10, bad11, samePath, bad12, replayChecks, row9}
 use Rattle.model.specs.Claims.{row7, row8}
 use Rattle.model.specs.Batch.{Batch, firstOf, Node}
@@ -17,7 +17,7 @@ use Rattle.model.specs.Nodes.{mergeOf}
 use Rattle.model.specs.Replay.{Reply, responseOf, Outcome, differs, ended, outcome}
 use Rattle.model.proofs.Claims.{Reported, rows-reported}
 use Rattle.model.proofs.Equal.{same-reply, reply-same, same-path, path-same}
-use Rattle.model.proofs.Scans.{not-false, Clear}
+use Rattle.model.proofs.Scans.{Clear}
 
 -- an outcome with the path w
 abbrev pub Along : List ℕ → Outcome → Type 0

@@ -4,18 +4,20 @@ use mathlib.Core.List.{List, [], _∷_, _++_, map}
 use mathlib.Core.Path.{_≡_, refl, sym, ap, subst, _∙_}
 use Prim.Native.Nat.{ℕ, suc, _≤_}
 use native.Mathlib.Omega.{arith}
+use Rattle.basics.specs.Lists.{All}
+use Rattle.basics.specs.Count.{count}
+use Rattle.basics.specs.Maps.{upd}
+use Rattle.basics.proofs.Lists.{all-append, all-map, all-imp, all-any}
+use Rattle.basics.proofs.Maps.{upd-same, upd-other}
+use Rattle.basics.proofs.Tests.{byBool, same-or, eqb-self}
 use Rattle.text.specs.declared.report.Entry.{Entry}
-use Rattle.ordering.specs.Lists.{All, tally}
-use Rattle.ordering.specs.Maps.{upd}
 use Rattle.ordering.specs.Order.{Numbered}
 use Rattle.ordering.specs.Merge.{bump}
 use Rattle.model.specs.ByRule.{itemOf}
 use Rattle.model.specs.Orders.{OrderOf}
 use Rattle.ordering.specs.Whole.{keyed}
-use Rattle.ordering.proofs.Basics.{byBool, same-or, eqb-self, upd-same, upd-other}
-use Rattle.ordering.proofs.Lanes.{all-lanes, tally-lanes}
-use Rattle.ordering.proofs.Lists.{all-append, all-map, all-imp, all-any}
-use Rattle.ordering.proofs.Numbers.{bump-same, bump-other, tally-once}
+use Rattle.ordering.proofs.Lanes.{all-lanes, count-lanes}
+use Rattle.ordering.proofs.Numbers.{bump-same, bump-other, count-once}
 use Rattle.model.specs.Allowed.{eventsOf, Allowed}
 use Rattle.model.specs.Batch.{Batch, logOf, countOf, claims, claimed, Node, ev, ln}
 use Rattle.model.specs.Machine.{Machine}
@@ -69,14 +71,14 @@ module _ (M : Machine) where
 -- ── no number comes twice, so no operation is claimed twice ──
 -- a test that counts the lines of operation k of request r
 pub none-claimed : (f : Node → Bool) (r k : ℕ) → ((l : Entry) → f (ln l) ≡ claims r k l) → (ls : List Entry) (es : List Node) →
-    tally f (map ln ls ++ es) ≡ 0 → claimed ls r k ≡ false
+    count f (map ln ls ++ es) ≡ 0 → claimed ls r k ≡ false
 none-claimed f r k h [] es e = refl
 none-claimed f r k h (l ∷ ls) es e = byBool (claims r k l)
     (λ d. let e′ = rw (h l, d) at e in absurd (omega arith))
     (λ d. rw d (none-claimed f r k h ls es (let e′ = rw (h l, d) at e in omega arith)))
 
 module _ (cnt : ℕ → ℕ) (es : List Node) where
-  unique : (ls : List Entry) → ((r k : ℕ) → tally (keyed rid (num cnt) r k) (map ln ls ++ es) ≤ 1) → Unique ls
+  unique : (ls : List Entry) → ((r k : ℕ) → count (keyed rid (num cnt) r k) (map ln ls ++ es) ≤ 1) → Unique ls
   unique [] h = tt
   unique (l ∷ ls) h =
       let e = rw (eqb-self (l .rid), eqb-self (l .num)) at (h (l .rid) (l .num)) in
@@ -134,8 +136,8 @@ module _ (M : Machine) (opening : ℕ → M .Content) (b : Batch) where
   module _ (a : Allowed M opening b) (p : Placed a) where
     pub placed-unique : Unique (b .log)
     placed-unique = unique cnt (map ev (b .trace)) (b .log) (λ r k. subst (λ n. n ≤ 1)
-        (tally-lanes lane (keyed rid (num cnt) r k) (p .items) (nodes b) (p .placed .lanes))
-        (tally-once rid (num cnt) r k (p .items) (λ r. 0) (p .placed .numbered)))
+        (count-lanes lane (keyed rid (num cnt) r k) (p .items) (nodes b) (p .placed .lanes))
+        (count-once rid (num cnt) r k (p .items) (λ r. 0) (p .placed .numbered)))
 
     pub placed-ahead : Ahead M (claim M (b .log) opening) (initial M opening) (p .items)
     placed-ahead o =

@@ -4,15 +4,15 @@ use mathlib.Core.Logic.{_≢_, inl, inr, _↔_}
 use mathlib.Core.Path.{_≡_, refl, sym, ap, subst, subst₂}
 use Prim.Native.Nat.{ℕ, suc}
 use native.Mathlib.Omega.{arith}
+use Rattle.basics.specs.Lists.{Neighbours}
+use Rattle.basics.specs.Chain.{one, Cycle}
+use Rattle.basics.proofs.Lists.{mem-all}
+use Rattle.basics.proofs.Chains.{cycle-map}
 use Rattle.text.specs.declared.report.Entry.{Entry}
 use Rattle.text.specs.declared.trace.Event.the-variants.{Request, Response}
 use Rattle.text.specs.declared.trace.Event.{Event}
 use Rattle.ordering.specs.Before.{Before, Follows}
-use Rattle.ordering.specs.Chain.{one, Cycle}
-use Rattle.ordering.specs.Lists.{Neighbours}
-use Rattle.ordering.proofs.Chains.{cycle-map}
 use Rattle.ordering.proofs.Cycles.{merge-cycle}
-use Rattle.ordering.proofs.Lists.{mem-all}
 use Rattle.model.specs.Batch.{Batch, logOf, countOf, Node, ev, ln}
 use Rattle.model.specs.Nodes.{lane, rid, num, nodes, mergeOf}
 use Rattle.model.specs.Precedes.{Precedes, events, first, then, last, logged, Returns}

@@ -2,11 +2,11 @@
 use mathlib.Core.List.{List, []}
 use mathlib.Core.Logic.{_↔_}
 use mathlib.Core.Path.{_≡_}
+use Rattle.basics.specs.Lists.{Neighbours}
+use Rattle.basics.specs.Chain.{Chain, one}
+use Rattle.basics.proofs.Chains.{chain-map}
 use Rattle.ordering.specs.Before.{ComesBefore}
-use Rattle.ordering.specs.Chain.{Chain, one}
 use Rattle.ordering.specs.FirstFree.{Greedy}
-use Rattle.ordering.specs.Lists.{Neighbours}
-use Rattle.ordering.proofs.Chains.{chain-map}
 use Rattle.ordering.proofs.FirstFree.{takes-same, only-order}
 use Rattle.model.specs.Batch.{Batch, countOf, Node}
 use Rattle.model.specs.Nodes.{lane, rid, num, nodes, mergeOf}

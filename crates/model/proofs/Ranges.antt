@@ -6,15 +6,19 @@ use Prim.Native.Nat.{ℕ, zero, suc, _+_, _≤_}
 use lib.Dec.{eqb}
 use lib.ListN.{length}
 use native.Mathlib.Omega.{arith}
+use Rattle.basics.specs.Lists.{All}
+use Rattle.basics.specs.Count.{count}
+use Rattle.basics.specs.Maps.{upd}
+use Rattle.basics.proofs.Lists.{all-append, all-any, count-append}
+use Rattle.basics.proofs.Maps.{upd-same, upd-other}
+use Rattle.basics.proofs.Tests.{clash, byBool, byEq, same-or, eqb-yes, eqb-no}
 use Rattle.text.specs.declared.report.Entry.{Entry}
 use Rattle.text.specs.declared.report.Op.{Op}
 use Rattle.text.specs.declared.schedule.Move.{Move}
 use Rattle.text.specs.declared.trace.Event.the-variants.{Request, Response}
 use Rattle.text.specs.declared.trace.Event.{Event}
-use Rattle.ordering.specs.Lists.{All}
-use Rattle.ordering.specs.Maps.{upd}
-use Rattle.ordering.proofs.Basics.{clash, byBool, byEq, same-or, eqb-yes, eqb-no, upd-same, upd-other}
-use Rattle.ordering.proofs.Lists.{all-append, all-any}
+use Rattle.text.specs.Trace.{isRequest, isResponse}
+use Rattle.text.specs.Schedule.{isArrive}
 use Rattle.model.specs.Batch.{Batch, requested, answered}
 use Rattle.model.specs.Bounds.{Within, Bounded}
 use Rattle.model.specs.Host.{logsFrom, Host, made, ofsFrom, recorded}
@@ -32,7 +36,7 @@ use Rattle.model.specs.PlainRun.{
   replied,
   operationsOf,
 }
-use Rattle.model.specs.Ranges.{requestsIn, responsesIn, arrivalsIn, FitEvent, FitEntry, FitOf, FitMove, FitBatch}
+use Rattle.model.specs.Ranges.{FitEvent, FitEntry, FitOf, FitMove, FitBatch}
 use Rattle.model.proofs.Recorded.{
   Did,
   arrives-now,
@@ -76,7 +80,7 @@ one-less done r (Request q prog a b ∷ es) n m = byEq q r
     rw e (omega (arith, one-less done r es n (rw d at m))))
 one-less done r (Response q s v ∷ es) n m = one-less done r es n m
 
-responses-open : (past es : List Event) → InOrder past es → responsesIn es ≤ requestsIn es + openIn (λ q. answered q past) past
+responses-open : (past es : List Event) → InOrder past es → count isResponse es ≤ count isRequest es + openIn (λ q. answered q past) past
 responses-open past [] o = omega arith
 responses-open past (Request r prog a b ∷ es) o =
     let i = responses-open (Request r prog a b ∷ past) es (o .1) in
@@ -87,13 +91,8 @@ responses-open past (Response r s v ∷ es) o = omega (
   one-less (λ q. answered q past) r past (o .1) (o .0),
 )
 
-pub responses-few : (es : List Event) → InOrder [] es → responsesIn es ≤ requestsIn es
+pub responses-few : (es : List Event) → InOrder [] es → count isResponse es ≤ count isRequest es
 responses-few es o = omega (arith, responses-open [] es o)
-
-pub requests-append : (es fs : List Event) → requestsIn (es ++ fs) ≡ requestsIn es + requestsIn fs
-requests-append [] fs = omega arith
-requests-append (Request r prog a b ∷ es) fs = omega (arith, requests-append es fs)
-requests-append (Response r s v ∷ es) fs = requests-append es fs
 
 -- ── what the host holds stays in range; R is the range of rids ──
 module _ (M : Machine) (B : Bounded M) (R : ℕ → Type 0) where
@@ -163,12 +162,12 @@ module _ (M : Machine) (B : Bounded M) (R : ℕ → Type 0) where
   operations-fit r (opened p k) h = omega (arith, h .1 .1)
   operations-fit r (closed w k) h = h .1
 
-  ofs-fit : (phase : ℕ → Phase M) → ((r : ℕ) → FitPhase r (phase r)) → (es : List Event) (n g : ℕ) → n + requestsIn es ≡ g →
+  ofs-fit : (phase : ℕ → Phase M) → ((r : ℕ) → FitPhase r (phase r)) → (es : List Event) (n g : ℕ) → n + count isRequest es ≡ g →
       All (FitEvent M B R) es → All (FitOf M B R g) (ofsFrom M phase n es)
   ofs-fit phase h [] n g i e = tt
   ofs-fit phase h (Request r prog a b ∷ es) n g i e =
       ((e .0 .0, omega arith, operations-fit r (phase r) (h r)), ofs-fit phase h es (suc n) g (omega arith) (e .1))
-  ofs-fit phase h (Response r s v ∷ es) n g i e = ofs-fit phase h es n g i (e .1)
+  ofs-fit phase h (Response r s v ∷ es) n g i e = ofs-fit phase h es n g (omega (arith, i)) (e .1)
 
   -- ── the schedule ──
   module _ (known : ℕ → Bool) (limit : ℕ) where
@@ -181,20 +180,20 @@ module _ (M : Machine) (B : Bounded M) (R : ℕ → Type 0) where
 
     -- the requests so far and the arrivals to come
     abbrev Arrivals : ℕ → List Move → Host M → Type 0
-    Arrivals n ms h = requestsIn (h .trace) + arrivalsIn ms ≡ n
+    Arrivals n ms h = count isRequest (h .trace) + count isArrive ms ≡ n
 
     did-arrivals : (n : ℕ) (h h′ : Host M) (m : Move) (ms : List Move) → Did M known limit h m h′ → Arrivals n (m ∷ ms) h → Arrivals n ms h′
-    did-arrivals n h h′ m ms (arrives-now r prog a b k e) i = omega (arith, i, requests-append (h .trace) (Request r prog a b ∷ []))
-    did-arrivals n h h′ m ms (operates r p k o e d l) i = i
-    did-arrivals n h h′ m ms (replies r p k t v e d) i = omega (arith, i, requests-append (h .trace) (Response r t v ∷ []))
-    did-arrivals n h h′ m ms (rests r w n′ e) i = i
+    did-arrivals n h h′ m ms (arrives-now r prog a b k e) i = omega (arith, i, count-append isRequest (h .trace) (Request r prog a b ∷ []))
+    did-arrivals n h h′ m ms (operates r p k o e d l) i = omega (arith, i)
+    did-arrivals n h h′ m ms (replies r p k t v e d) i = omega (arith, i, count-append isRequest (h .trace) (Response r t v ∷ []))
+    did-arrivals n h h′ m ms (rests r w n′ e) i = omega (arith, i)
 
     module _ (objects : ℕ) (within : Within M objects) (opening : ℕ → Content) (held : (o : ℕ) → B .FitContent (opening o)) where
       pub recorded-fit : (ms : List Move) → All (FitMove M B R) ms → (b : Batch) → recorded M known limit objects opening ms ≡ made b →
           FitBatch M B R limit ms b
       recorded-fit ms fit b e = subst (FitBatch M B R limit ms) (w .batch) (record {
         events = g .events;
-        ofs = ofs-fit (w .host .state .phase) (g .phases) (w .host .trace) 0 (requestsIn (w .host .trace)) (omega arith) (g .events);
+        ofs = ofs-fit (w .host .state .phase) (g .phases) (w .host .trace) 0 (count isRequest (w .host .trace)) (omega arith) (g .events);
         lines = logs-fit (w .host .state .logs) (g .lines) 0 objects;
         requests = omega (arith, n);
         responses = omega (arith, n, responses-few (w .host .trace) o);
@@ -212,7 +211,7 @@ module _ (M : Machine) (B : Bounded M) (R : ℕ → Type 0) where
           g = wrote-keeps M known limit (λ ms h. Ranged (h .state) (h .trace)) (FitMove M B R) (λ h h′ m ms i d. did-ranged h h′ m i d)
               objects opening ms b w fit (record { contents = held; phases = λ r. tt; lines = λ o. tt; events = tt })
 
-          n : Arrivals (arrivalsIn ms) [] (w .host)
-          n = wrote-keeps M known limit (Arrivals (arrivalsIn ms)) (λ m. Unit {0})
-              (λ h h′ m rest _ d. did-arrivals (arrivalsIn ms) h h′ m rest d)
+          n : Arrivals (count isArrive ms) [] (w .host)
+          n = wrote-keeps M known limit (Arrivals (count isArrive ms)) (λ m. Unit {0})
+              (λ h h′ m rest _ d. did-arrivals (count isArrive ms) h h′ m rest d)
               objects opening ms b w (all-any (λ m. Unit {0}) (λ m. tt) ms) (omega arith)

@@ -9,14 +9,14 @@ use borrow.Author.Tests.{ltb-true}
 use lib.Dec.{eqb, ltb}
 use lib.ListN.{length}
 use native.Mathlib.Omega.{arith}
+use Rattle.basics.specs.Lists.{All}
+use Rattle.basics.proofs.Lists.{all-any}
+use Rattle.basics.proofs.Tests.{clash, byBool, eqb-self, yes-eqb}
 use Rattle.text.specs.declared.report.Op.{Op}
 use Rattle.text.specs.declared.schedule.Move.the-variants.{Arrive, Turn}
 use Rattle.text.specs.declared.schedule.Move.{Move}
 use Rattle.text.specs.declared.trace.Event.the-variants.{Request, Response}
 use Rattle.text.specs.declared.trace.Event.{Event}
-use Rattle.ordering.specs.Lists.{All}
-use Rattle.ordering.proofs.Basics.{clash, byBool, eqb-self, yes-eqb}
-use Rattle.ordering.proofs.Lists.{all-any}
 use Rattle.model.specs.Audit.{audit}
 use Rattle.model.specs.Batch.{Batch, requested, answered}
 use Rattle.model.specs.Bounds.{Within}

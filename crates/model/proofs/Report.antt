@@ -6,14 +6,15 @@ use Prim.Native.Nat.{ℕ, zero, suc, _+_, _≤_, _<_}
 use lib.Dec.{eqb}
 use lib.ListN.{length, length-append}
 use native.Mathlib.Omega.{arith}
+use Rattle.basics.specs.Lists.{All}
+use Rattle.basics.specs.Maps.{upd}
+use Rattle.basics.proofs.Lists.{all-append}
+use Rattle.basics.proofs.Maps.{upd-same, upd-at, upd-other}
+use Rattle.basics.proofs.Tests.{byBool, byEq, same-or, eqb-yes, eqb-no, eqb-self}
 use Rattle.text.specs.declared.report.Entry.{Entry}
 use Rattle.text.specs.declared.report.Of.{Of}
 use Rattle.text.specs.declared.trace.Event.the-variants.{Request, Response}
 use Rattle.text.specs.declared.trace.Event.{Event}
-use Rattle.ordering.specs.Lists.{All}
-use Rattle.ordering.specs.Maps.{upd}
-use Rattle.ordering.proofs.Basics.{byBool, byEq, same-or, eqb-yes, eqb-no, eqb-self, upd-same, upd-at, upd-other}
-use Rattle.ordering.proofs.Lists.{all-append}
 use Rattle.model.specs.Batch.{logOf, firstOf}
 use Rattle.model.specs.Host.{logsFrom, ofsFrom}
 use Rattle.model.specs.Machine.{Machine}

@@ -5,12 +5,12 @@ use mathlib.Core.Logic.{_≢_}
 use mathlib.Core.Option.{some}
 use mathlib.Core.Path.{_≡_, refl, sym, ap, subst, _∙_}
 use Prim.Native.Nat.{ℕ}
+use Rattle.basics.specs.Lists.{All}
+use Rattle.basics.proofs.Lists.{all-mem, mem-all}
+use Rattle.basics.proofs.Tests.{clash, byEq, eqb-no, eqb-self}
 use Rattle.text.specs.declared.report.Of.{Of}
 use Rattle.text.specs.declared.trace.Event.the-variants.{Request, Response}
 use Rattle.text.specs.declared.trace.Event.{Event}
-use Rattle.ordering.specs.Lists.{All}
-use Rattle.ordering.proofs.Basics.{clash, byEq, eqb-no, eqb-self}
-use Rattle.ordering.proofs.Lists.{all-mem, mem-all}
 use Rattle.model.specs.Batch.{Batch, requested, answered, countOf, ev}
 use Rattle.model.specs.Machine.{Machine}
 use Rattle.model.specs.Nodes.{rid}

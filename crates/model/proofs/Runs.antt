@@ -6,11 +6,12 @@ use mathlib.Core.Path.{_≡_, refl, sym, ap, ap₂, subst, _∙_}
 use Prim.Native.Nat.{ℕ, suc, _≤_}
 use lib.Dec.{eqb}
 use native.Mathlib.Omega.{arith}
+use Rattle.basics.specs.Maps.{upd}
+use Rattle.basics.proofs.Maps.{upd-same, upd-at, upd-other}
+use Rattle.basics.proofs.Tests.{clash, byBool, byEq, same-or, and-true, yes-eqb, eqb-self}
 use Rattle.text.specs.declared.report.Op.{Op}
 use Rattle.text.specs.declared.trace.Event.the-variants.{Request, Response}
 use Rattle.text.specs.declared.trace.Event.{Event}
-use Rattle.ordering.specs.Maps.{upd}
-use Rattle.ordering.proofs.Basics.{clash, byBool, byEq, same-or, and-true, yes-eqb, eqb-self, upd-same, upd-at, upd-other}
 use Rattle.model.specs.Allowed.{eventsOf}
 use Rattle.model.specs.Batch.{requested, Node, ev, ln}
 use Rattle.model.specs.Machine.{Next, op, stop, Machine}

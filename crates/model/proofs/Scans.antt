@@ -1,23 +1,15 @@
 -- A scan that finds nothing, and a list of checks none of which finds a fault.
-use mathlib.Core.Bool.{Bool, true, false, _||_, not}
+use mathlib.Core.Bool.{Bool, false}
 use mathlib.Core.List.{List, [], _∷_, _++_}
 use mathlib.Core.Option.{Option, none, some}
 use mathlib.Core.Path.{_≡_, refl}
 use Prim.Native.Nat.{ℕ, suc}
 use lib.Dec.{eqb}
+use Rattle.basics.specs.Lists.{All}
+use Rattle.basics.proofs.Tests.{clash, byBool, no-eqb}
 use Rattle.text.specs.Text.{Read, readable, unreadable}
-use Rattle.ordering.specs.Lists.{All}
-use Rattle.ordering.proofs.Basics.{clash, byBool, no-eqb}
 use Rattle.model.specs.Checks.{Verdict, verdict, Check, check, faultOr, firstFault, badLine, contents}
 use Rattle.model.specs.FirstBad.{firstBad}
-
-pub false-or : (a b : Bool) → (a || b) ≡ false → (a ≡ false) × (b ≡ false)
-false-or true b e = clash (cc)
-false-or false b e = (refl, e)
-
-pub not-false : (b : Bool) → not b ≡ false → b ≡ true
-not-false true e = refl
-not-false false e = clash (cc)
 
 module _ {A : Type 0} (bad : List A → A → Bool) where
   -- no line is bad, each with the lines above it

@@ -4,16 +4,17 @@ use mathlib.Core.Option.{some}
 use mathlib.Core.Path.{_≡_, refl, sym, ap, subst, _∙_}
 use Prim.Native.Nat.{ℕ, zero, suc, _+_, _≤_}
 use native.Mathlib.Omega.{arith}
+use Rattle.basics.specs.Lists.{All}
+use Rattle.basics.specs.Maps.{upd}
+use Rattle.basics.proofs.Maps.{upd-same, upd-other}
+use Rattle.basics.proofs.Tests.{clash, byBool, byEq, eqb-self}
 use Rattle.text.specs.declared.report.Entry.{Entry}
 use Rattle.text.specs.declared.report.Op.{Op}
 use Rattle.text.specs.declared.trace.Event.the-variants.{Request, Response}
-use Rattle.ordering.specs.Lists.{All}
-use Rattle.ordering.specs.Maps.{upd}
 use Rattle.ordering.specs.Order.{Numbered}
 use Rattle.ordering.specs.Merge.{bump}
 use Rattle.model.specs.ByRule.{itemOf}
 use Rattle.model.specs.Batch.{Node, ev, ln}
-use Rattle.ordering.proofs.Basics.{clash, byBool, byEq, eqb-self, upd-same, upd-other}
 use Rattle.ordering.proofs.Numbers.{bump-same, bump-other, reached}
 use Rattle.model.specs.Machine.{Next, op, stop, Machine, shown}
 use Rattle.model.specs.Nodes.{rid, num}

@@ -4,14 +4,14 @@ use mathlib.Core.Path.{_≡_, refl, sym, ap, subst, subst₂, _∙_}
 use Prim.Native.Nat.{ℕ, suc, _<_}
 use lib.ListN.{length}
 use native.Mathlib.Omega.{arith}
+use Rattle.basics.specs.Lists.{All}
+use Rattle.basics.proofs.Lists.{all-append, all-append-right, all-map, all-unmap, all-mem, mem-all, all-imp}
+use Rattle.basics.proofs.Tests.{clash, byEq}
 use Rattle.text.specs.declared.report.Entry.{Entry}
 use Rattle.text.specs.declared.report.Of.{Of}
 use Rattle.text.specs.declared.trace.Event.the-variants.{Request, Response}
 use Rattle.text.specs.declared.trace.Event.{Event}
-use Rattle.ordering.specs.Lists.{All}
-use Rattle.ordering.proofs.Basics.{clash, byEq}
 use Rattle.ordering.proofs.Lanes.{all-lanes}
-use Rattle.ordering.proofs.Lists.{all-append, all-append-right, all-map, all-unmap, all-mem, mem-all, all-imp}
 use Rattle.ordering.proofs.Numbers.{reached, over}
 use Rattle.ordering.proofs.Orders.{merge-order}
 use Rattle.model.specs.Allowed.{Allowed}

@@ -5,14 +5,14 @@ use mathlib.Core.Logic.{_↔_}
 use mathlib.Core.Option.{none}
 use mathlib.Core.Path.{_≡_, refl}
 use Prim.Native.Nat.{ℕ, suc}
+use Rattle.basics.specs.Lists.{All}
+use Rattle.basics.proofs.Tests.{clash, byEq, eqb-yes, false-or, not-false}
 use Rattle.text.specs.declared.report.Of.{Of}
 use Rattle.text.specs.declared.trace.Event.the-variants.{Request, Response}
 use Rattle.text.specs.declared.trace.Event.{Event}
-use Rattle.ordering.specs.Lists.{All}
-use Rattle.ordering.proofs.Basics.{clash, byEq, eqb-yes}
 use Rattle.model.specs.Requests.{bad4, row4, unanswered, row4Open, row6From, row6}
 use Rattle.model.specs.Batch.{Batch, requested, answered}
-use Rattle.model.proofs.Scans.{false-or, not-false, Clean, scan-clean, clean-scan}
+use Rattle.model.proofs.Scans.{Clean, scan-clean, clean-scan}
 
 -- a rid is requested once, and a response closes an open request; `past` are the earlier events, latest first
 abbrev pub InOrder : List Event → List Event → Type 0

@@ -5,10 +5,10 @@ use mathlib.Core.Logic.{_≢_, _↔_}
 use mathlib.Core.Path.{_≡_, refl, sym, ap, _∙_}
 use Prim.Native.Nat.{ℕ}
 use native.Mathlib.Omega.{arith}
+use Rattle.basics.specs.Lists.{Later}
 use Rattle.text.specs.declared.trace.Event.the-variants.{Request, Response}
 use Rattle.text.specs.declared.trace.Event.{Event}
 use Rattle.ordering.specs.Before.{Answered}
-use Rattle.ordering.specs.Lists.{Later}
 use Rattle.ordering.proofs.Weaker.{merge-weaker}
 use Rattle.model.specs.Audit.{audit}
 use Rattle.model.specs.Claims.{NoneTo8}

@@ -3,9 +3,9 @@
 use mathlib.Core.List.{List, [], _∷_, List·Memᴰ}
 use mathlib.Core.Logic.{_⊎_}
 use mathlib.Core.Path.{_≡_}
+use Rattle.basics.specs.Lists.{Later}
 use Rattle.text.specs.declared.report.Entry.{Entry}
 use Rattle.text.specs.declared.trace.Event.{Event}
-use Rattle.ordering.specs.Lists.{Later}
 use Rattle.model.specs.Batch.{Batch, Node, ev, ln}
 use Rattle.model.specs.PlainRun.{Item, event, operation}
 use Rattle.model.specs.Precedes.{Leads}

@@ -2,7 +2,7 @@
 use mathlib.Core.Path.{_≡_}
 use mathlib.Core.List.{List}
 use Prim.Native.Nat.{ℕ}
-use Rattle.ordering.specs.Maps.{upd}
+use Rattle.basics.specs.Maps.{upd}
 use Rattle.text.specs.declared.report.Op.{Op}
 
 -- What a process does next: an operation, or it stops with a status and a value (0 and the reply; 1 and 0 where it is cut off).

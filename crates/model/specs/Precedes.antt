@@ -2,11 +2,11 @@
 use mathlib.Core.List.{List, List·Memᴰ}
 use mathlib.Core.Path.{_≡_}
 use Prim.Native.Nat.{ℕ, suc}
+use Rattle.basics.specs.Lists.{Neighbours, Later}
+use Rattle.basics.specs.Chain.{Chain, Cycle}
 use Rattle.text.specs.declared.report.Entry.{Entry}
 use Rattle.text.specs.declared.trace.Event.the-variants.{Request, Response}
 use Rattle.text.specs.declared.trace.Event.{Event}
-use Rattle.ordering.specs.Chain.{Chain, Cycle}
-use Rattle.ordering.specs.Lists.{Neighbours, Later}
 use Rattle.model.specs.Batch.{Batch, Node, ev, ln, logOf, countOf}
 
 pub data Precedes (T : List Event → Event → Event → Type 0) (b : Batch) : Node → Node → Type 0 where

@@ -1,34 +1,21 @@
 -- What the host writes stays in range: the fields of each line, and the numbers of lines. That its texts can be read back rests on it.
-use mathlib.Core.List.{List, [], _∷_}
+use mathlib.Core.List.{List}
 use mathlib.Core.Path.{_≡_}
-use Prim.Native.Nat.{ℕ, suc, _≤_, _<_}
+use Prim.Native.Nat.{ℕ, _≤_, _<_}
 use lib.ListN.{length}
+use Rattle.basics.specs.Lists.{All}
+use Rattle.basics.specs.Count.{count}
 use Rattle.text.specs.declared.report.Entry.{Entry}
 use Rattle.text.specs.declared.report.Of.{Of}
 use Rattle.text.specs.declared.schedule.Move.the-variants.{Arrive, Turn}
 use Rattle.text.specs.declared.schedule.Move.{Move}
 use Rattle.text.specs.declared.trace.Event.the-variants.{Request, Response}
 use Rattle.text.specs.declared.trace.Event.{Event}
-use Rattle.ordering.specs.Lists.{All}
+use Rattle.text.specs.Trace.{isRequest, isResponse}
+use Rattle.text.specs.Schedule.{isArrive}
 use Rattle.model.specs.Batch.{Batch}
 use Rattle.model.specs.Bounds.{Bounded}
 use Rattle.model.specs.Machine.{Machine}
-
--- how many requests and responses a trace has, and how many arrivals a schedule
-abbrev pub requestsIn : List Event → ℕ
-requestsIn [] = 0
-requestsIn (Request r prog a b ∷ es) = suc (requestsIn es)
-requestsIn (Response r status value ∷ es) = requestsIn es
-
-abbrev pub responsesIn : List Event → ℕ
-responsesIn [] = 0
-responsesIn (Request r prog a b ∷ es) = responsesIn es
-responsesIn (Response r status value ∷ es) = suc (responsesIn es)
-
-abbrev pub arrivalsIn : List Move → ℕ
-arrivalsIn [] = 0
-arrivalsIn (Arrive r prog a b ∷ ms) = suc (arrivalsIn ms)
-arrivalsIn (Turn r ∷ ms) = arrivalsIn ms
 
 -- R is the range of rids
 module _ (M : Machine) (B : Bounded M) (R : ℕ → Type 0) where
@@ -49,8 +36,8 @@ module _ (M : Machine) (B : Bounded M) (R : ℕ → Type 0) where
   -- a batch that was written for the schedule ms
   pub record FitBatch (mostOperations : ℕ) (ms : List Move) (b : Batch) : Type 0 where
     pub events : All FitEvent (b .trace)
-    pub ofs : All (FitOf (requestsIn (b .trace))) (b .ofs)
+    pub ofs : All (FitOf (count isRequest (b .trace))) (b .ofs)
     pub lines : All FitEntry (b .log)
-    pub requests : requestsIn (b .trace) ≡ arrivalsIn ms
-    pub responses : responsesIn (b .trace) ≤ arrivalsIn ms
+    pub requests : count isRequest (b .trace) ≡ count isArrive ms
+    pub responses : count isResponse (b .trace) ≤ count isArrive ms
     pub operations : length (b .log) ≤ mostOperations

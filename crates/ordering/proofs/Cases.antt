@@ -6,8 +6,8 @@ use mathlib.Core.List.{List, [], _∷_, _++_, List·Memᴰ, List·Memᴰ·head, 
 use Prim.Native.Nat.{ℕ, suc, _-_, _%_, _/_}
 use lib.Dec.{ltb}
 use native.Mathlib.Omega.{arith}
+use Rattle.basics.specs.Chain.{Cycle, one, more}
 use Rattle.ordering.specs.Merge.{bump, merge}
-use Rattle.ordering.specs.Chain.{Cycle, one, more}
 use Rattle.ordering.specs.Before.{ComesBefore, logged, next}
 use Rattle.ordering.specs.Positions.{upFrom, slot, value, mergeOf, orderIn}
 

@@ -16,29 +16,21 @@ use mathlib.Core.List.{
 use Prim.Native.Nat.{ℕ, zero, suc, _+_, _≤_, _<_}
 use native.Mathlib.Omega.{arith}
 use lib.ListN.{length}
-use Rattle.ordering.specs.Lists.{All, tally, Neighbours, Later}
+use Rattle.basics.specs.Lists.{All, Neighbours, Later}
+use Rattle.basics.specs.Count.{count}
+use Rattle.basics.specs.Chain.{Chain, one, Cycle}
+use Rattle.basics.proofs.Lists.{mem-all, all-append, count-append, later-front, later-mem, neighbours-later, First, Preceded, first-or}
+use Rattle.basics.proofs.Tests.{eqb-yes}
+use Rattle.basics.proofs.Chains.{ending, back-step}
 use Rattle.ordering.specs.Order.{onLane, IsOrder}
 use Rattle.ordering.specs.Merge.{stuck, pick, mergeAll}
-use Rattle.ordering.specs.Chain.{Chain, one, Cycle}
 use Rattle.ordering.specs.Before.{ComesBefore, events, logged, next}
 use Rattle.ordering.specs.Whole.{keyed, Whole}
 use Rattle.ordering.specs.FirstFree.{Waits}
-use Rattle.ordering.proofs.Basics.{eqb-yes}
-use Rattle.ordering.proofs.Lists.{
-  mem-all,
-  all-append,
-  tally-append,
-  later-front,
-  later-mem,
-  neighbours-later,
-  First,
-  Preceded,
-  first-or,
-}
-use Rattle.ordering.proofs.Lanes.{on-append, on-mem, mem-on, tally-on, tally-lanes}
-use Rattle.ordering.proofs.Numbers.{reached, over, at-least, numbered-suffix, tally-once, keyed-self, mem-tally, reach}
+use Rattle.ordering.proofs.Lanes.{on-append, on-mem, mem-on, count-on, count-lanes}
+use Rattle.ordering.proofs.Numbers.{reached, over, at-least, numbered-suffix, count-once, keyed-self, mem-count, reach}
 use Rattle.ordering.proofs.Orders.{not-stuck, Merged, merged, merge-order, halted}
-use Rattle.ordering.proofs.Chains.{cycle, ending, back-step}
+use Rattle.ordering.proofs.Chains.{cycle}
 
 byLe : (a b : ℕ) → (b < a → ⊥) → a ≤ b
 byLe a b f = omega arith
@@ -62,22 +54,22 @@ module _ {A : Type 0} (lane rid num : A → ℕ) where
         (subst (List·Memᴰ y) (h .lanes (lane y)) (Memᴰ·append-right (onLane lane (lane y) out) (mem-on lane left y m))) .0
 
     -- each number is taken or left once
-    shared : (r k : ℕ) → tally (keyed rid num r k) out + tally (keyed rid num r k) left ≤ 1
+    shared : (r k : ℕ) → count (keyed rid num r k) out + count (keyed rid num r k) left ≤ 1
     shared r k = omega (
       arith,
-      tally-lanes lane (keyed rid num r k) (out ++ left) all (λ l. on-append lane l out left ∙ h .lanes l),
-      tally-append (keyed rid num r k) out left,
+      count-lanes lane (keyed rid num r k) (out ++ left) all (λ l. on-append lane l out left ∙ h .lanes l),
+      count-append (keyed rid num r k) out left,
       whole .once r k,
     )
 
     apart : (y : A) → List·Memᴰ y out → List·Memᴰ y left → ⊥
-    apart y a b = omega (arith, shared (rid y) (num y), mem-tally rid num out y a, mem-tally rid num left y b)
+    apart y a b = omega (arith, shared (rid y) (num y), mem-count rid num out y a, mem-count rid num left y b)
 
     pub not-below : (x : A) → List·Memᴰ x left → reached rid (λ r. 0) out (rid x) ≤ num x
     not-below x m = byLe (reached rid (λ r. 0) out (rid x)) (num x) (λ l. omega (
       arith,
       shared (rid x) (num x),
-      mem-tally rid num left x m,
+      mem-count rid num left x m,
       reach rid num (rid x) (num x) out (λ r. 0) (h .numbered) (omega arith) l,
     ))
 
@@ -85,8 +77,8 @@ module _ {A : Type 0} (lane rid num : A → ℕ) where
     pub taken-before : (l : ℕ) (y x : A) (q : List A) → onLane lane l left ≡ x ∷ q → Later (onLane lane l all) y x → List·Memᴰ y left → ⊥
     taken-before l y x q e b m =
         let cut : onLane lane l all ≡ onLane lane l out ++ x ∷ q = sym (h .lanes l) ∙ ap (λ t. onLane lane l out ++ t) e in
-        let t : tally (keyed rid num (rid x) (num x)) (onLane lane l all) ≤ 1 =
-        omega (arith, tally-on lane (keyed rid num (rid x) (num x)) l all, whole .once (rid x) (num x)) in
+        let t : count (keyed rid num (rid x) (num x)) (onLane lane l all) ≤ 1 =
+        omega (arith, count-on lane (keyed rid num (rid x) (num x)) l all, whole .once (rid x) (num x)) in
         let k = later-front (keyed rid num (rid x) (num x)) (onLane lane l all) (onLane lane l out) q y x (keyed-self rid num x) t b cut in
         apart y (on-mem lane l out y k .0) m
 
@@ -165,10 +157,10 @@ module _ {A : Type 0} (lane rid num : A → ℕ) where
         let k = keyed rid num (rid z) (num z) in
         let cut : onLane lane l all ≡ onLane lane l pre ++ z ∷ onLane lane l post =
         sym (h .lanes l) ∙ on-append lane l pre (z ∷ post) ∙ ap (λ t. onLane lane l pre ++ t) (rw (eqb-yes lz)) in
-        let t : tally k (onLane lane l all) ≤ 1 = subst (λ t. tally k t ≤ 1) (h .lanes l) (omega (
+        let t : count k (onLane lane l all) ≤ 1 = subst (λ t. count k t ≤ 1) (h .lanes l) (omega (
           arith,
-          tally-on lane k l (pre ++ z ∷ post),
-          tally-once rid num (rid z) (num z) (pre ++ z ∷ post) (λ r. 0) (h .numbered),
+          count-on lane k l (pre ++ z ∷ post),
+          count-once rid num (rid z) (num z) (pre ++ z ∷ post) (λ r. 0) (h .numbered),
         )) in
         on-mem lane l pre y
         (later-front k (onLane lane l all) (onLane lane l pre) (onLane lane l post) y z (keyed-self rid num z) t b cut) .0

@@ -20,15 +20,15 @@ use Prim.Native.Nat.{ℕ, zero, suc}
 use native.Mathlib.Omega.{arith}
 use lib.Dec.{eqb}
 use lib.ListN.{length}
-use Rattle.ordering.specs.Lists.{All, Neighbours}
+use Rattle.basics.specs.Lists.{All, Neighbours}
+use Rattle.basics.specs.Chain.{Chain, one, more}
+use Rattle.basics.proofs.Lists.{all-mem, all-imp, later-mem, neighbours-later}
+use Rattle.basics.proofs.Tests.{byBool, byEq, eqb-yes, clash}
 use Rattle.ordering.specs.Order.{onLane}
 use Rattle.ordering.specs.Merge.{among, Pick, stuck, took, keep, pick, merge, mergeAll}
-use Rattle.ordering.specs.Chain.{Chain, one, more}
 use Rattle.ordering.specs.Before.{ComesBefore, events, logged, next}
 use Rattle.ordering.specs.Whole.{Whole}
 use Rattle.ordering.specs.FirstFree.{Waits, FirstFree, Takes, Greedy}
-use Rattle.ordering.proofs.Basics.{byBool, byEq, eqb-yes, clash}
-use Rattle.ordering.proofs.Lists.{all-mem, all-imp, later-mem, neighbours-later}
 use Rattle.ordering.proofs.Lanes.{on-head, on-append, on-mem, mem-on}
 use Rattle.ordering.proofs.Numbers.{reached, reached-snoc, numbered-snoc}
 use Rattle.ordering.proofs.Orders.{picked, Merged}

@@ -7,13 +7,13 @@ use Prim.Native.Nat.{ℕ, zero, suc, _+_, _≤_, _<_}
 use lib.Dec.{eqb}
 use lib.ListN.{getD, length}
 use native.Mathlib.Omega.{arith}
-use Rattle.ordering.specs.Lists.{All}
+use Rattle.basics.specs.Lists.{All}
+use Rattle.basics.proofs.Lists.{count-all}
+use Rattle.basics.proofs.Tests.{byBool, byEq}
 use Rattle.ordering.specs.Order.{IsOrder}
 use Rattle.ordering.specs.Merge.{among, bump, Pick, stuck, took, keep, pick, merge, mergeAll}
 use Rattle.ordering.specs.Positions.{upFrom, slot, value, mergeOf, counts}
-use Rattle.ordering.proofs.Basics.{byBool, byEq}
-use Rattle.ordering.proofs.Lanes.{all-lanes, tally-lanes}
-use Rattle.ordering.proofs.Lists.{tally-all}
+use Rattle.ordering.proofs.Lanes.{all-lanes, count-lanes}
 use Rattle.ordering.proofs.Numbers.{bump-same, bump-other}
 use Rattle.ordering.proofs.Orders.{merge-stuck, merge-took, picked, merge-order, order-merge}
 use Rattle.ordering.proofs.Merging.{up-length}
@@ -161,6 +161,6 @@ module _ (lane request number : List ℕ) (n : ℕ) where
   whole-order e =
       let order = mergeOf lane request number n .0 in
       let o = none-left .0 e .1 .lanes in (
-        sym (tally-all order) ∙ tally-lanes (slot lane 17) (λ i. true) order (upFrom 0 n) o ∙ tally-all (upFrom 0 n) ∙ up-length 0 n,
+        sym (count-all order) ∙ count-lanes (slot lane 17) (λ i. true) order (upFrom 0 n) o ∙ count-all (upFrom 0 n) ∙ up-length 0 n,
         all-lanes (slot lane 17) (λ i. i < n) order (upFrom 0 n) o (all-below 0 n n (omega arith)),
       )

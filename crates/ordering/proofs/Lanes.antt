@@ -6,9 +6,10 @@ use mathlib.Core.List.{List, [], _∷_, _++_, List·Memᴰ, List·Memᴰ·head, 
 use Prim.Native.Nat.{ℕ, _+_, _≤_}
 use lib.Dec.{eqb}
 use native.Mathlib.Omega.{arith}
-use Rattle.ordering.specs.Lists.{All, tally}
+use Rattle.basics.specs.Lists.{All}
+use Rattle.basics.specs.Count.{count}
+use Rattle.basics.proofs.Tests.{byBool, byEq, eqb-yes, eqb-no, clash}
 use Rattle.ordering.specs.Order.{onLane}
-use Rattle.ordering.proofs.Basics.{byBool, byEq, eqb-yes, eqb-no, clash}
 
 module _ {A : Type 0} (lane : A → ℕ) where
   pub on-head : (x : A) (xs : List A) → onLane lane (lane x) (x ∷ xs) ≡ x ∷ onLane lane (lane x) xs
@@ -66,14 +67,14 @@ module _ {A : Type 0} (lane : A → ℕ) where
   all-lanes P xs ys e h = on-all P xs (λ l. rw (e l) (all-on P l ys h))
 
   -- ── how many items pass a test ──
-  pub tally-on : (f : A → Bool) (l : ℕ) (xs : List A) → tally f (onLane lane l xs) ≤ tally f xs
-  tally-on f l [] = omega arith
-  tally-on f l (x ∷ xs) = byBool (eqb (lane x) l) (λ e. rw e (omega (arith, tally-on f l xs))) (λ e. rw e (omega (arith, tally-on f l xs)))
+  pub count-on : (f : A → Bool) (l : ℕ) (xs : List A) → count f (onLane lane l xs) ≤ count f xs
+  count-on f l [] = omega arith
+  count-on f l (x ∷ xs) = byBool (eqb (lane x) l) (λ e. rw e (omega (arith, count-on f l xs))) (λ e. rw e (omega (arith, count-on f l xs)))
 
   record Extracted (f : A → Bool) (ys : List A) (x : A) : Type 0 where
     pub others : List A
     pub lanes : (l : ℕ) → onLane lane l (x ∷ others) ≡ onLane lane l ys
-    pub tallied : tally f ys ≡ cond (f x) 1 0 + tally f others
+    pub counted : count f ys ≡ cond (f x) 1 0 + count f others
 
   extract : (f : A → Bool) (ys : List A) (x : A) (zs : List A) → onLane lane (lane x) ys ≡ x ∷ zs → Extracted f ys x
   extract f [] x zs e = clash (cc)
@@ -81,18 +82,18 @@ module _ {A : Type 0} (lane : A → ℕ) where
       (λ p d.
       let e′ = rw d at e in
       let i : y ≡ x = cc in
-      rw (← i) (record { others = ys; lanes = λ l. refl; tallied = refl }))
+      rw (← i) (record { others = ys; lanes = λ l. refl; counted = refl }))
       (λ p d.
       let h = extract f ys x zs (rw d at e) in
       record {
         others = y ∷ h .others;
         lanes = λ l. moved x y (h .others) ys p l (h .lanes l);
-        tallied = omega (arith, h .tallied);
+        counted = omega (arith, h .counted);
       })
 
-  pub tally-lanes : (f : A → Bool) (xs ys : List A) → ((l : ℕ) → onLane lane l xs ≡ onLane lane l ys) → tally f xs ≡ tally f ys
-  tally-lanes f [] ys h = rw (no-lanes ys (λ l. sym (h l)))
-  tally-lanes f (x ∷ xs) ys h =
+  pub count-lanes : (f : A → Bool) (xs ys : List A) → ((l : ℕ) → onLane lane l xs ≡ onLane lane l ys) → count f xs ≡ count f ys
+  count-lanes f [] ys h = rw (no-lanes ys (λ l. sym (h l)))
+  count-lanes f (x ∷ xs) ys h =
       let e = extract f ys x (onLane lane (lane x) xs) (sym (h (lane x)) ∙ on-head x xs) in
-      let i = tally-lanes f xs (e .others) (λ l. cancel l x xs (e .others) (h l ∙ sym (e .lanes l))) in
-      omega (arith, i, e .tallied)
+      let i = count-lanes f xs (e .others) (λ l. cancel l x xs (e .others) (h l ∙ sym (e .lanes l))) in
+      omega (arith, i, e .counted)

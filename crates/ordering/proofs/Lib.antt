@@ -1,5 +1,3 @@
-pub mod Basics
-pub mod Lists
 pub mod Lanes
 pub mod Numbers
 pub mod Orders

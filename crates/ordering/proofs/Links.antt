@@ -5,12 +5,12 @@ use Prim.Native.Nat.{ℕ, zero, suc, _-_, _%_, _≤_, _<_, min}
 use lib.ListN.{getD, set, length, length-set, replicate, length-replicate, getD-replicate}
 use lib.Seq.{getD-set-same, getD-set-other}
 use native.Mathlib.Omega.{arith}
-use Rattle.ordering.specs.Lists.{All}
+use Rattle.basics.specs.Lists.{All}
+use Rattle.basics.proofs.Lists.{all-imp}
+use Rattle.basics.proofs.Tests.{byEq}
 use Rattle.ordering.specs.Order.{onLane}
 use Rattle.ordering.specs.Positions.{upFrom, slot}
 use Rattle.ordering.specs.Heads.{linkFrom, linkOf}
-use Rattle.ordering.proofs.Basics.{byEq}
-use Rattle.ordering.proofs.Lists.{all-imp}
 use Rattle.ordering.proofs.Lanes.{all-on}
 
 -- from h the array `after` leads through xs, and then to no item: to a position from n on

@@ -5,9 +5,9 @@ use mathlib.Core.List.{List, []}
 use Prim.Native.Nat.{ℕ}
 use lib.ListN.{getD, length}
 use native.Mathlib.Omega.{arith}
+use Rattle.basics.specs.Chain.{Chain, Cycle}
 use Rattle.ordering.specs.Order.{IsOrder}
 use Rattle.ordering.specs.Merge.{mergeAll}
-use Rattle.ordering.specs.Chain.{Chain, Cycle}
 use Rattle.ordering.specs.Before.{ComesBefore, WeaklyBefore}
 use Rattle.ordering.specs.Whole.{Whole}
 use Rattle.ordering.specs.FirstFree.{Takes, Greedy}

@@ -7,14 +7,14 @@ use Prim.Native.Nat.{ℕ, zero, suc, _+_, _-_, _%_, _≤_, _<_}
 use lib.ListN.{getD, length, set, drop, length-set, length-append, replicate}
 use lib.Seq.{getD-set-same, getD-set-other, drop-cons, set-append-seam}
 use native.Mathlib.Omega.{arith}
+use Rattle.basics.proofs.Lists.{all-imp}
+use Rattle.basics.proofs.Tests.{byEq, eqb-yes, eqb-no, yes-eqb}
 use Rattle.ordering.specs.declared.Front.{Front}
 use Rattle.ordering.specs.declared.Merged.{Merged}
 use Rattle.ordering.specs.Order.{onLane}
 use Rattle.ordering.specs.Merge.{merge, pick, took, bump}
 use Rattle.ordering.specs.Positions.{upFrom, slot, value, mergeOf, overFront, counts}
 use Rattle.ordering.specs.Heads.{isNext, leastOf}
-use Rattle.ordering.proofs.Basics.{byEq, eqb-yes, eqb-no, yes-eqb}
-use Rattle.ordering.proofs.Lists.{all-imp}
 use Rattle.ordering.proofs.Numbers.{bump-same, bump-other}
 use Rattle.ordering.proofs.Orders.{merge-stuck, merge-took, picked, Picked}
 use Rattle.ordering.proofs.Pick.{Ascending, Ready, head-lane, still-ascending, pick-least, pick-none}

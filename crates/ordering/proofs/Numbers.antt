@@ -6,12 +6,14 @@ use mathlib.Core.List.{List, [], _∷_, _++_, List·Memᴰ, List·Memᴰ·not-ni
 use Prim.Native.Nat.{ℕ, suc, _+_, _≤_, _<_}
 use lib.Dec.{eqb}
 use native.Mathlib.Omega.{arith}
-use Rattle.ordering.specs.Lists.{All, tally}
+use Rattle.basics.specs.Lists.{All}
+use Rattle.basics.specs.Count.{count}
+use Rattle.basics.proofs.Lists.{all-imp}
+use Rattle.basics.proofs.Maps.{upd-at, upd-other, upd-swap}
+use Rattle.basics.proofs.Tests.{byBool, byEq, eqb-yes, eqb-self, yes-eqb, and-true}
 use Rattle.ordering.specs.Order.{Numbered}
 use Rattle.ordering.specs.Merge.{bump}
 use Rattle.ordering.specs.Whole.{keyed}
-use Rattle.ordering.proofs.Basics.{byBool, byEq, eqb-yes, eqb-self, yes-eqb, and-true, upd-at, upd-other, upd-swap}
-use Rattle.ordering.proofs.Lists.{all-imp}
 
 pub bump-le : (s : ℕ → ℕ) (r j : ℕ) → s j ≤ bump s r j
 unfolding bump
@@ -71,42 +73,42 @@ module _ {A : Type 0} (rid num : A → ℕ) where
   numbered-snoc (y ∷ xs) x s h e = (h .0, numbered-snoc xs x (bump s (rid y)) (h .1) e)
 
   -- ── how often a number comes ──
-  pub tally-none : (r k : ℕ) (ys : List A) (s : ℕ → ℕ) → Numbered rid num s ys → k < s r → tally (keyed rid num r k) ys ≡ 0
-  tally-none r k [] s h l = refl
-  tally-none r k (y ∷ ys) s h l =
-      let i = tally-none r k ys (bump s (rid y)) (h .1) (omega (arith, bump-le s (rid y) r)) in
+  pub count-none : (r k : ℕ) (ys : List A) (s : ℕ → ℕ) → Numbered rid num s ys → k < s r → count (keyed rid num r k) ys ≡ 0
+  count-none r k [] s h l = refl
+  count-none r k (y ∷ ys) s h l =
+      let i = count-none r k ys (bump s (rid y)) (h .1) (omega (arith, bump-le s (rid y) r)) in
       byBool (eqb (rid y) r && eqb (num y) k)
       (λ d.
       let g = and-true (eqb (rid y) r) (eqb (num y) k) d in
       absurd (omega (arith, h .0, yes-eqb {a = num y} {b = k} (g .1), ap s (yes-eqb {a = rid y} {b = r} (g .0)))))
       (λ d. rw d (omega arith))
 
-  pub tally-once : (r k : ℕ) (ys : List A) (s : ℕ → ℕ) → Numbered rid num s ys → tally (keyed rid num r k) ys ≤ 1
-  tally-once r k [] s h = omega arith
-  tally-once r k (y ∷ ys) s h = byBool (eqb (rid y) r && eqb (num y) k)
+  pub count-once : (r k : ℕ) (ys : List A) (s : ℕ → ℕ) → Numbered rid num s ys → count (keyed rid num r k) ys ≤ 1
+  count-once r k [] s h = omega arith
+  count-once r k (y ∷ ys) s h = byBool (eqb (rid y) r && eqb (num y) k)
       (λ d.
       let g = and-true (eqb (rid y) r) (eqb (num y) k) d in
       let p : rid y ≡ r = yes-eqb (g .0) in
       let q : num y ≡ k = yes-eqb (g .1) in
-      rw d (omega (arith, tally-none r k ys (bump s (rid y)) (h .1) (omega (arith, h .0, bump-same s (rid y) r p, ap s p)))))
-      (λ d. rw d (omega (arith, tally-once r k ys (bump s (rid y)) (h .1))))
+      rw d (omega (arith, count-none r k ys (bump s (rid y)) (h .1) (omega (arith, h .0, bump-same s (rid y) r p, ap s p)))))
+      (λ d. rw d (omega (arith, count-once r k ys (bump s (rid y)) (h .1))))
 
   pub keyed-self : (x : A) → keyed rid num (rid x) (num x) x ≡ true
   keyed-self x = rw (eqb-self (rid x), eqb-self (num x))
 
-  pub mem-tally : (xs : List A) (x : A) → List·Memᴰ x xs → 1 ≤ tally (keyed rid num (rid x) (num x)) xs
-  mem-tally [] x m = absurd (List·Memᴰ·not-nil m)
-  mem-tally (y ∷ ys) x m = at (List·Memᴰ·cases-cons m) (mem-tally ys x)
+  pub mem-count : (xs : List A) (x : A) → List·Memᴰ x xs → 1 ≤ count (keyed rid num (rid x) (num x)) xs
+  mem-count [] x m = absurd (List·Memᴰ·not-nil m)
+  mem-count (y ∷ ys) x m = at (List·Memᴰ·cases-cons m) (mem-count ys x)
     where
-      at : (x ≡ y) ⊎ List·Memᴰ x ys → (List·Memᴰ x ys → 1 ≤ tally (keyed rid num (rid x) (num x)) ys) →
-          1 ≤ tally (keyed rid num (rid x) (num x)) (y ∷ ys)
+      at : (x ≡ y) ⊎ List·Memᴰ x ys → (List·Memᴰ x ys → 1 ≤ count (keyed rid num (rid x) (num x)) ys) →
+          1 ≤ count (keyed rid num (rid x) (num x)) (y ∷ ys)
       at (inl e) ih =
           rw (eqb-yes {a = rid y} {b = rid x} (ap rid (sym e)), eqb-yes {a = num y} {b = num x} (ap num (sym e))) (omega arith)
       at (inr k) ih = omega (arith, ih k)
 
   -- every number below the reached one stands in the order
   pub reach : (r k : ℕ) (ys : List A) (s : ℕ → ℕ) → Numbered rid num s ys → s r ≤ k → k < reached rid s ys r →
-      1 ≤ tally (keyed rid num r k) ys
+      1 ≤ count (keyed rid num r k) ys
   reach r k [] s h a b = absurd (omega arith)
   reach r k (y ∷ ys) s h a b = byEq (rid y) r
       (λ p d. byEq (num y) k

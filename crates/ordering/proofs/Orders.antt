@@ -7,9 +7,9 @@ use Prim.Native.Nat.{ℕ, zero, suc, _≤_}
 use lib.Dec.{eqb}
 use lib.ListN.{length}
 use native.Mathlib.Omega.{arith}
+use Rattle.basics.proofs.Tests.{byBool, byEq, eqb-yes, eqb-no, yes-eqb, clash, not-true, and-true}
 use Rattle.ordering.specs.Order.{onLane, Numbered, IsOrder}
 use Rattle.ordering.specs.Merge.{among, bump, Pick, stuck, took, keep, pick, merge}
-use Rattle.ordering.proofs.Basics.{byBool, byEq, eqb-yes, eqb-no, yes-eqb, clash, not-true, and-true}
 use Rattle.ordering.proofs.Lanes.{on-head, no-lanes, cancel, moved}
 use Rattle.ordering.proofs.Numbers.{bump-le, bump-same, bump-other, bump-swap, reached}
 

@@ -5,10 +5,10 @@ use mathlib.Core.List.{List, [], _∷_}
 use Prim.Native.Nat.{ℕ, _≤_, _<_}
 use lib.Dec.{eqb}
 use native.Mathlib.Omega.{arith}
-use Rattle.ordering.specs.Lists.{All}
+use Rattle.basics.specs.Lists.{All}
+use Rattle.basics.proofs.Tests.{clash, byBool, byEq, eqb-yes}
 use Rattle.ordering.specs.Order.{onLane}
 use Rattle.ordering.specs.Merge.{among, pick, keep, Pick, stuck, took}
-use Rattle.ordering.proofs.Basics.{clash, byBool, byEq, eqb-yes}
 use Rattle.ordering.proofs.Lanes.{on-head, all-on, all-lanes}
 use Rattle.ordering.proofs.Orders.{picked, Picked, not-stuck}
 

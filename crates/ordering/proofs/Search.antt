@@ -7,9 +7,9 @@ use lib.Dec.{ltb}
 use lib.ListN.{getD, length}
 use native.Mathlib.Omega.{arith}
 use borrow.Author.Tests.{lt-ltb, le-ltb, ltb-true, ltb-false}
+use Rattle.basics.proofs.Tests.{byBool, byEq, clash, and-true, eqb-yes, eqb-no}
 use Rattle.ordering.specs.declared.Front.{Front}
 use Rattle.ordering.specs.Heads.{isNext, search, leastOf}
-use Rattle.ordering.proofs.Basics.{byBool, byEq, clash, and-true, eqb-yes, eqb-no}
 
 module _ (next : ℕ → Bool) (head : List ℕ) (n : ℕ) where
   -- the item is the head of its lane; it is next in its request, and the smallest of the heads that are

@@ -4,17 +4,18 @@ use mathlib.Core.Logic.{_≢_, _⊎_, inl, inr, ⊎-elim, _↔_}
 use mathlib.Core.List.{List, [], _∷_, _++_, List·Memᴰ, List·Memᴰ·head, Memᴰ·append-right, append-assoc}
 use Prim.Native.Nat.{ℕ, suc, _≤_}
 use native.Mathlib.Omega.{arith}
-use Rattle.ordering.specs.Lists.{tally, Neighbours, Later}
+use Rattle.basics.specs.Lists.{Neighbours, Later}
+use Rattle.basics.specs.Count.{count}
+use Rattle.basics.specs.Chain.{Chain, one, more, Cycle}
+use Rattle.basics.proofs.Lists.{not-later, later-next, later-mem, neighbours-later}
+use Rattle.basics.proofs.Tests.{byEq}
+use Rattle.basics.proofs.Chains.{chain-trans, cycle-map}
 use Rattle.ordering.specs.Order.{onLane}
 use Rattle.ordering.specs.Merge.{mergeAll}
-use Rattle.ordering.specs.Chain.{Chain, one, more, Cycle}
 use Rattle.ordering.specs.Before.{events, logged, next, ComesBefore, WeaklyBefore}
 use Rattle.ordering.specs.Whole.{keyed, Whole}
-use Rattle.ordering.proofs.Basics.{byEq}
-use Rattle.ordering.proofs.Lists.{not-later, later-next, later-mem, neighbours-later}
-use Rattle.ordering.proofs.Lanes.{on-mem, tally-on}
+use Rattle.ordering.proofs.Lanes.{on-mem, count-on}
 use Rattle.ordering.proofs.Numbers.{keyed-self}
-use Rattle.ordering.proofs.Chains.{chain-trans, cycle-map}
 use Rattle.ordering.proofs.Cycles.{merge-cycle}
 
 module _ {A : Type 0} (lane rid num : A → ℕ) (all : List A) where
@@ -47,8 +48,8 @@ module _ {A : Type 0} (lane rid num : A → ℕ) (all : List A) where
   on-right l y x b = on-mem lane l all x (later-mem (onLane lane l all) y x b) .1
 
   module _ (w : Whole lane rid num all) where
-    once : (x : A) → tally (keyed rid num (rid x) (num x)) trace ≤ 1
-    once x = omega (arith, tally-on lane (keyed rid num (rid x) (num x)) 0 all, w .once (rid x) (num x))
+    once : (x : A) → count (keyed rid num (rid x) (num x)) trace ≤ 1
+    once x = omega (arith, count-on lane (keyed rid num (rid x) (num x)) 0 all, w .once (rid x) (num x))
 
     extend : (z y x : A) → Later trace z y → Neighbours trace y x → Later trace z x
     extend z y x = later-next (keyed rid num (rid y) (num y)) trace z y x (keyed-self rid num y) (once y)

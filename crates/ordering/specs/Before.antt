@@ -3,7 +3,7 @@ use mathlib.Core.Path.{_≡_}
 use mathlib.Core.Logic.{_≢_}
 use mathlib.Core.List.{List, List·Memᴰ}
 use Prim.Native.Nat.{ℕ, suc}
-use Rattle.ordering.specs.Lists.{Neighbours, Later}
+use Rattle.basics.specs.Lists.{Neighbours, Later}
 use Rattle.ordering.specs.Order.{onLane}
 
 module _ {A : Type 0} (rid num : A → ℕ) where

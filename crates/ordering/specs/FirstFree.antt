@@ -1,7 +1,7 @@
 -- The rule by which an order is made: at each step the first item of the list that waits for no item that is left.
 use mathlib.Core.Path.{_≡_}
 use mathlib.Core.List.{List, [], _∷_, _++_, List·Memᴰ}
-use Rattle.ordering.specs.Lists.{All}
+use Rattle.basics.specs.Lists.{All}
 
 module _ {A : Type 0} (R : A → A → Type 0) where
   -- an item that R puts before z is left

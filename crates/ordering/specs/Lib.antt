@@ -1,9 +1,5 @@
-pub mod Choice
-pub mod Lists
-pub mod Maps
 pub mod Merge
 pub mod Order
-pub mod Chain
 pub mod Before
 pub mod Whole
 pub mod FirstFree

@@ -5,8 +5,8 @@ use mathlib.Core.List.{List, [], _∷_}
 use Prim.Native.Nat.{ℕ, zero, suc}
 use lib.Dec.{eqb}
 use lib.ListN.{length}
-use Rattle.ordering.specs.Choice.{choose}
-use Rattle.ordering.specs.Maps.{upd}
+use Rattle.basics.specs.Choice.{choose}
+use Rattle.basics.specs.Maps.{upd}
 
 -- whether a number stands in a list
 abbrev pub among : ℕ → List ℕ → Bool

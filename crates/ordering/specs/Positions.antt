@@ -1,9 +1,20 @@
--- The merge over arrays: an item is its position. Lanes are taken modulo 17, requests modulo 64, so that every array has a meaning.
+-- The merge over arrays: an item is its position. Lanes and requests are taken modulo how many there are, so that every array has a meaning.
 use mathlib.Core.List.{List, [], _∷_, _++_}
 use Prim.Native.Nat.{ℕ, zero, suc, _%_, min}
 use lib.ListN.{getD, length, drop}
 use Rattle.ordering.specs.declared.Merged.{Merged}
 use Rattle.ordering.specs.Merge.{merge}
+
+-- the lanes: the trace and each object
+abbrev pub lanes : ℕ
+lanes = 17
+
+-- the most items of a merge, and the most requests that they are of
+abbrev pub mergedItems : ℕ
+mergedItems = 1152
+
+abbrev pub mergedRequests : ℕ
+mergedRequests = 64
 
 -- the m positions from i on
 abbrev pub upFrom : ℕ → ℕ → List ℕ
@@ -19,12 +30,12 @@ value xs i = getD xs i 0
 
 -- the order of the first n items, and what is left
 unfoldable pub mergeOf : List ℕ → List ℕ → List ℕ → ℕ → List ℕ × List ℕ
-mergeOf lane request number n = merge (slot lane 17) (slot request 64) (value number) n (λ r. 0) (upFrom 0 n)
+mergeOf lane request number n = merge (slot lane lanes) (slot request mergedRequests) (value number) n (λ r. 0) (upFrom 0 n)
 
--- the merge of what the arrays hold: as many items as the shortest array has, the one to write to among them, and no more than 1,152
+-- the merge of what the arrays hold: as many items as the shortest array has, the one to write to among them, and no more than `mergedItems`
 abbrev pub mergeArrays : List ℕ → List ℕ → List ℕ → List ℕ → List ℕ × List ℕ
 mergeArrays lane request number out =
-    mergeOf lane request number (min (length lane) (min (length request) (min (length number) (min (length out) 1152))))
+    mergeOf lane request number (min (length lane) (min (length request) (min (length number) (min (length out) mergedItems))))
 
 -- a list written over the front of an array
 abbrev pub overFront : List ℕ → List ℕ → List ℕ

@@ -5,23 +5,24 @@ use files::Got;
 use files::front;
 use files::read_file;
 use files::write_front;
+use host::PRINTED;
+use host::TEXT_ROOM;
 use host::record_text;
 use lines::written;
 ghost use mathlib.Core.Path.{_≡_};
 ghost use lib.ListN.{length};
 ghost use Rattle.lines.specs.Put.{front};
-ghost use Rattle.host.specs.Printed.{recordedText, mostPrinted};
-ghost use Rattle.host.specs.Recorded.{recordOf};
+ghost use Rattle.host.specs.Printed.{runPrinted, mostPrinted};
 
 // As much as is ever printed (`mostPrinted`).
-const ROOM: usize = 131125;
+const ROOM: usize = PRINTED;
 
 // What is printed, to the front of out, and how long it is. It has room whatever the texts are.
 fn fill(programs: &[u8], schedule: &[u8], out: &mut [u8; ROOM]) -> usize
     requires { ⌜ length (now out) ≡ mostPrinted ⌝ }
-    ensures count { λ r. ⌜ r ≡ length (recordedText (recordOf (now (programs .entry)) (now (schedule .entry)) 65535 65535)) ⌝ }
+    ensures count { λ r. ⌜ r ≡ length (runPrinted (now (programs .entry)) (now (schedule .entry))) ⌝ }
     ensures bytes { λ _. ⌜ now (out .exit) ≡ front
-        (recordedText (recordOf (now (programs .entry)) (now (schedule .entry)) 65535 65535)) (now (out .entry)) ⌝ }
+        (runPrinted (now (programs .entry)) (now (schedule .entry))) (now (out .entry)) ⌝ }
     ensures room { λ _. ⌜ length (now (out .exit)) ≡ length (now (out .entry)) ⌝ }
 {
     written(record_text(programs, schedule, out))
@@ -34,8 +35,8 @@ fn print(programs: &[u8], schedule: &[u8]) {
 }
 
 fn main() {
-    let mut programs = [0u8; 65536];
-    let mut schedule = [0u8; 65536];
+    let mut programs = [0u8; TEXT_ROOM];
+    let mut schedule = [0u8; TEXT_ROOM];
     let Got::Bytes(p) = read_file(b"programs.txt", &mut programs) else {
         return;
     };

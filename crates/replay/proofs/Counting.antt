@@ -7,11 +7,11 @@ use Prim.Native.Nat.{ℕ, zero, suc, _+_, _-_, _≤_, _<_}
 use borrow.Author.Tests.{ltb-true, ltb-false}
 use lib.Dec.{ltb}
 use native.Mathlib.Omega.{arith}
-use Rattle.text.specs.Rows.{firsts}
-use Rattle.text.specs.Scans.{FirstFrom}
+use Rattle.basics.specs.Firsts.{firsts}
+use Rattle.basics.specs.Scans.{FirstFrom}
+use Rattle.basics.proofs.Tests.{byBool}
 use Rattle.text.specs.declared.report.Entry.{Entry}
 use Rattle.text.specs.declared.report.Of.{Of}
-use Rattle.ordering.proofs.Basics.{byBool}
 use Rattle.model.specs.Claims.{allClaimed, bad8}
 use Rattle.model.specs.FirstBad.{firstBad}
 use Rattle.model.specs.Batch.{claims, claimed}

@@ -10,31 +10,32 @@ use lib.ListN.{getD, set, take, drop, length, length-set, length-take, length-ap
 use lib.Seq.{getD-set-same, getD-set-other, getD-append-add, getD-take}
 use native.Mathlib.Nat.{mod-eq-of-lt}
 use native.Mathlib.Omega.{arith}
+use Rattle.basics.specs.Lists.{All}
+use Rattle.basics.specs.Firsts.{firsts}
+use Rattle.basics.specs.Scans.{FirstFrom}
+use Rattle.basics.proofs.Lists.{mem-all}
+use Rattle.basics.proofs.Firsts.{firsts-length, firsts-same, firsts-front, firsts-at, firsts-getD, firsts-all, all-firsts}
+use Rattle.basics.proofs.Scans.{one-place}
+use Rattle.basics.proofs.Tests.{clash, byBool, byEq, same-or, eqb-yes, yes-eqb}
 use Rattle.text.specs.Held.{eventAt, ofAt, entryAt}
-use Rattle.text.specs.Rows.{firsts}
-use Rattle.text.specs.Scans.{FirstFrom}
 use Rattle.text.specs.declared.report.Of.{Of}
 use Rattle.text.specs.declared.trace.Event.the-variants.{Request, Response}
 use Rattle.text.specs.declared.trace.Event.{Event}
-use Rattle.text.proofs.RowLaws.{firsts-length, firsts-same, firsts-front, firsts-at, firsts-getD}
-use Rattle.text.proofs.ScanLaws.{one-place}
-use Rattle.ordering.specs.Lists.{All}
 use Rattle.ordering.specs.Merge.{mergeAll}
 use Rattle.ordering.specs.Positions.{slot, mergeOf, overFront, orderIn, countsOf}
 use Rattle.ordering.specs.declared.Merged.{Merged}
-use Rattle.ordering.proofs.Basics.{clash, byBool, byEq, same-or, eqb-yes, yes-eqb}
 use Rattle.ordering.proofs.Items.{Held, both, merge-items, whole-order}
-use Rattle.ordering.proofs.Lists.{mem-all}
 use Rattle.model.specs.Audit.{leftOver}
 use Rattle.model.specs.Batch.{Batch, countOf, Node, ev, ln}
 use Rattle.model.specs.Checks.{breaks}
 use Rattle.model.specs.Nodes.{lane, rid, num, nodes}
 use Rattle.model.proofs.Claims.{Counted, counted-mem, row7-lines}
 use Rattle.model.proofs.Requests.{Named, events-named}
-use Rattle.replay.specs.Judges.{batchHeld, nodeAt, Ready, Orders}
+use Rattle.replay.specs.Arrays.{Arrays, batchHeld, nodeAt}
+use Rattle.replay.specs.Judges.{Ready, Orders}
 use Rattle.replay.specs.Promises.{laneIn, numberIn, ItemIs, ItemsTo, Returns}
 use Rattle.replay.proofs.Ready.{ready-formed}
-use Rattle.replay.proofs.Searches.{firsts-all, search-hit}
+use Rattle.replay.proofs.Searches.{search-hit}
 
 -- ── the item of an event ──
 module _ (ofs : List ℕ) (m : ℕ) (x : Event) (s : ℕ) where
@@ -48,14 +49,16 @@ module _ (ofs : List ℕ) (m : ℕ) (x : Event) (s : ℕ) where
       (record { lane-is = refl; place = f; number-is = ap (λ y. y .count % 65535 + 1) d })
 
 -- ── items put one after the other ──
-module _ (events ofs : List ℕ) (m : ℕ) (logs : List ℕ) (n : ℕ) where
+module _ (here : Arrays) where
+  open Arrays here using (events, ofs, m, logs, n)
+
   pub items-start : (lane request number : List ℕ) → length lane ≡ 1152 → length request ≡ 1152 → length number ≡ 1152 →
-      ItemsTo events ofs m logs n 0 lane request number
+      ItemsTo here 0 lane request number
   items-start lane request number a b c =
       record { lane-room = a; request-room = b; number-room = c; items = λ j h. absurd (omega arith) }
 
-  pub items-more : (lane request number : List ℕ) (i a b c : ℕ) → ItemsTo events ofs m logs n i lane request number → i < 1152 →
-      ItemIs ofs m (nodeAt events logs n i) a b c → ItemsTo events ofs m logs n (i + 1) (set lane i a) (set request i b) (set number i c)
+  pub items-more : (lane request number : List ℕ) (i a b c : ℕ) → ItemsTo here i lane request number → i < 1152 →
+      ItemIs ofs m (nodeAt events logs n i) a b c → ItemsTo here (i + 1) (set lane i a) (set request i b) (set number i c)
   items-more lane request number i a b c t h x = record {
     lane-room = length-set lane i a ∙ t .lane-room;
     request-room = length-set request i b ∙ t .request-room;
@@ -87,14 +90,11 @@ module _ {A B : Type 0} (f : A → B) where
   map-length : (g : ℕ → A) (n : ℕ) → length (map f (firsts g n)) ≡ n
   map-length g n = ap length (map-firsts g n) ∙ firsts-length (λ i. f (g i)) n
 
-all-firsts : {A : Type 0} (P : A → Type 0) (f : ℕ → A) (n : ℕ) → ((i : ℕ) → i < n → P (f i)) → All P (firsts f n)
-unfolding firsts
-all-firsts P f zero h = tt
-all-firsts P f (suc n) h = rw (firsts-front f n) (h 0 (omega arith), all-firsts P (λ i. f (suc i)) n (λ i l. h (suc i) (omega arith)))
+module _ (here : Arrays) where
+  open Arrays here using (events, t, ofs, m, logs, n)
 
-module _ (events : List ℕ) (t : ℕ) (ofs : List ℕ) (m : ℕ) (logs : List ℕ) (n : ℕ) where
   abbrev batch : Batch
-  batch = batchHeld events t ofs m logs n
+  batch = batchHeld here
 
   -- a node, past the last
   abbrev beyond : Node
@@ -174,7 +174,7 @@ module _ (events : List ℕ) (t : ℕ) (ofs : List ℕ) (m : ℕ) (logs : List �
         (firsts-all (λ e. Named batch (rid (ev e))) (eventAt events) t (i - n) (events-named batch (ready-formed known batch ready))
         (omega arith))))
 
-    module _ (lanes requests numbers : List ℕ) (h : ItemsTo events ofs m logs n (n + t) lanes requests numbers) where
+    module _ (lanes requests numbers : List ℕ) (h : ItemsTo here (n + t) lanes requests numbers) where
       abbrev place : ℕ → ℕ
       place i = getD requests i 0
 
@@ -225,12 +225,14 @@ left-breaks (x ∷ xs) f = rw (ne-eqb (suc (length xs)) 0 (λ e. omega arith))
 none-breaks : (k : ℕ) → breaks (not (eqb k 0)) 0 ≡ none → k ≡ 0
 none-breaks k e = byEq k 0 (λ p _. p) (λ _ d. let e′ = rw d at e in clash (cc))
 
-module _ (events : List ℕ) (t : ℕ) (ofs : List ℕ) (m : ℕ) (logs : List ℕ) (n : ℕ) (low : t ≤ 128) (few : m ≤ 64) (fewer : n ≤ 1024)
-    (lanes requests numbers : List ℕ) (h : ItemsTo events ofs m logs n (n + t) lanes requests numbers)
-    (front out : List ℕ) (e : front ≡ take (n + t) lanes) (o : length out ≡ 1152) (r : Merged) (c : r ≡ countsOf front requests numbers out)
+module _ (here : Arrays) (low : here .t ≤ 128) (few : here .m ≤ 64) (fewer : here .n ≤ 1024)
+    (lanes requests numbers : List ℕ) (h : ItemsTo here (here .n + here .t) lanes requests numbers)
+    (front out : List ℕ) (e : front ≡ take (here .n + here .t) lanes) (o : length out ≡ 1152) (r : Merged) (c : r ≡ countsOf front requests numbers out)
   where
+    open Arrays here using (events, t, logs, n)
+
     abbrev b : Batch
-    b = batchHeld events t ofs m logs n
+    b = batchHeld here
 
     -- the item at a place of the list
     abbrev item : ℕ → Node
@@ -252,17 +254,17 @@ module _ (events : List ℕ) (t : ℕ) (ofs : List ℕ) (m : ℕ) (logs : List �
     merge-is : (known : ℕ → Bool) → Ready known b → mergeAll lane rid (num (countOf (b .ofs))) (nodes b) ≡ both item places
     merge-is known ready =
         merge-items lane rid (num (countOf (b .ofs))) (nodes b) (ev (eventAt events 0)) front requests numbers
-        (held events t ofs m logs n low few known ready lanes requests numbers h front e)
-        ∙ ap (λ k. both item (mergeOf front requests numbers k)) (nodes-length events t ofs m logs n)
+        (held here low few known ready lanes requests numbers h front e)
+        ∙ ap (λ k. both item (mergeOf front requests numbers k)) (nodes-length here)
 
-    pub merge-returns : Returns events t ofs m logs n (not (eqb (r .left) 0))
+    pub merge-returns : Returns here (not (eqb (r .left) 0))
     merge-returns known ready =
         ap (λ x. breaks (not (eqb x 0)) 0) left-is
         ∙ left-breaks (places .1) item
         ∙ sym (ap (λ x. leftOver (x .1)) (merge-is known ready))
 
     -- where it leaves nothing over, its places stand in the front of the array
-    pub merge-orders : (after : List ℕ) → after ≡ orderIn front requests numbers out → Orders events t ofs m logs n after
+    pub merge-orders : (after : List ℕ) → after ≡ orderIn front requests numbers out → Orders here after
     unfolding Orders
     merge-orders after d known ready z =
         let xs = places .0 in
@@ -275,7 +277,7 @@ module _ (events : List ℕ) (t : ℕ) (ofs : List ℕ) (m : ℕ) (logs : List �
         (λ k l.
         ap (λ a. nodeAt events logs n (getD a k 0)) s
         ∙ ap (nodeAt events logs n) (List·getD-append xs (drop (length xs) out) 0 k (omega (arith, w .0)))
-        ∙ sym (node-is events t ofs m logs n (getD xs k 0) (below k l)))
+        ∙ sym (node-is here (getD xs k 0) (below k l)))
         ∙ ap (firsts (λ k. item (getD xs k 0))) (sym (w .0))
         ∙ sym (map-firsts item (λ k. getD xs k 0) (length xs))
         ∙ ap (map item) (firsts-getD xs 0)

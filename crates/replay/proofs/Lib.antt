@@ -13,6 +13,7 @@ pub mod Counting
 pub mod Replaying
 pub mod Paths
 pub mod Rows
+pub mod Looking
 pub mod Judging
 -- Rows 8 to 12 in their order
 pub mod Faults

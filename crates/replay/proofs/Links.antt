@@ -8,10 +8,10 @@ use lib.Dec.{eqb, ltb}
 use lib.ListN.{getD, set, length, length-set, replicate}
 use lib.Seq.{getD-set-same, getD-set-other}
 use native.Mathlib.Omega.{arith}
-use Rattle.text.specs.Scans.{FirstFrom}
+use Rattle.basics.specs.Scans.{FirstFrom}
+use Rattle.basics.proofs.Scans.{heads-start, heads-back}
+use Rattle.basics.proofs.Tests.{byBool, same-or, and-true, yes-eqb, no-eqb}
 use Rattle.text.specs.declared.report.Entry.{Entry}
-use Rattle.text.proofs.ScanLaws.{heads-start, heads-back}
-use Rattle.ordering.proofs.Basics.{byBool, same-or, and-true, yes-eqb, no-eqb}
 use Rattle.model.specs.Batch.{claims}
 use Rattle.replay.specs.Promises.{bucketOf, bucketAt, inBucket, Linked}
 

@@ -4,8 +4,8 @@ use mathlib.Core.List.{List}
 use mathlib.Core.Path.{_≡_, sym, ap, _∙_}
 use Prim.Native.Nat.{ℕ, _+_, _<_}
 use lib.ListN.{getD, length}
-use Rattle.text.proofs.RowLaws.{firsts-same, firsts-length, firsts-at}
-use Rattle.ordering.proofs.Basics.{byBool}
+use Rattle.basics.proofs.Firsts.{firsts-same, firsts-length, firsts-at}
+use Rattle.basics.proofs.Tests.{byBool}
 use Rattle.model.specs.Audit.{samePath}
 use Rattle.model.proofs.Equal.{same-path, path-same}
 use Rattle.replay.specs.Promises.{pathIn}

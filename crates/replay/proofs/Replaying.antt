@@ -8,14 +8,14 @@ use lib.ListN.{getD, set, length, length-set}
 use lib.Seq.{getD-set-same, getD-set-other}
 use native.Mathlib.Numerals.{add-one}
 use native.Mathlib.Omega.{arith}
+use Rattle.basics.specs.Firsts.{firsts}
+use Rattle.basics.proofs.Firsts.{firsts-more}
+use Rattle.basics.proofs.Tests.{byEq}
 use Rattle.text.specs.Held.{entryAt}
 use Rattle.text.specs.Programs.{noInstr}
-use Rattle.text.specs.Rows.{firsts}
 use Rattle.text.specs.declared.programs.Instr.{Instr}
 use Rattle.text.specs.declared.programs.Program.{Program}
 use Rattle.text.specs.declared.report.Op.{Op}
-use Rattle.text.proofs.RowLaws.{firsts-more}
-use Rattle.ordering.proofs.Basics.{byEq}
 use Rattle.model.specs.Machine.{Machine, Next, op, stop}
 use Rattle.model.specs.Replay.{said, Outcome, differs, ended, Answer, wrong, right, Claim, claim, compare, replay}
 use Rattle.machine.specs.declared.instructions.Act.{Act}
@@ -24,9 +24,8 @@ use Rattle.machine.specs.declared.processes.Next.the-variants.{Operation, Reply
 use Rattle.machine.specs.Instance.{Process, codeAt, gone, nextOf, resumedWith, machineOf}
 use Rattle.machine.specs.Instructions.{effect, effectOf}
 use Rattle.machine.specs.Processes.{advanced, stopAt, firstLocals, limit, instrAt, resumed}
-use Rattle.machine.specs.Objects.{atStart}
 use Rattle.machine.proofs.Turns.{moved, asked, replied, cut-off}
-use Rattle.replay.specs.Promises.{Answers, answeredAs, pathIn, replayOf, Replays}
+use Rattle.replay.specs.Promises.{Setting, claimedIn, Answers, answeredAs, pathIn, replayOf, Replays}
 use Rattle.replay.specs.declared.claims.Answered.{Answered}
 use Rattle.replay.specs.declared.claims.Answered.the-variants.{Wrong, Right}
 use Rattle.replay.specs.declared.replays.End.{End}
@@ -88,22 +87,22 @@ abbrev process : (prog : ℕ) (l : List ℕ) (at done : ℕ) → List ℕ → Pr
 process prog l at done path = record { prog = prog; locals = l; at = at; done = done; path = path }
 
 -- two processes of one program that go on alike are replayed alike
-same-gone : (table : List Program) (logs : List ℕ) (n rid s v left k : ℕ) (p q : Process) → p .prog ≡ q .prog →
-    gone limit table p ≡ gone limit table q → replayOf table logs n rid (said s v) left k p ≡ replayOf table logs n rid (said s v) left k q
-same-gone table logs n rid s v left k p q d e =
-    alike (machineOf table) _ s v left k p q
+same-gone : {logs : List ℕ} {n : ℕ} {answers : List ℕ} (w : Setting logs n answers) (rid s v left k : ℕ) (p q : Process) → p .prog ≡ q .prog →
+    gone limit (w .table) p ≡ gone limit (w .table) q → replayOf w rid (said s v) left k p ≡ replayOf w rid (said s v) left k q
+same-gone w rid s v left k p q d e =
+    alike (machineOf (w .table)) _ s v left k p q
     (λ u. λ i. resumedWith (d i) u (e i)) (λ i. d i ∷ e i .path) (ap (λ t. nextOf (t .stop .next)) e)
 
-module _ (logs : List ℕ) (n rid count base : ℕ) (code : List Instr) (l₀ old : List ℕ) where
-  abbrev claimed : (table : List Program) → ℕ → Claim (machineOf table)
-  claimed table = claim (machineOf table) (firsts (entryAt logs) n) atStart rid
+module _ (logs : List ℕ) (n : ℕ) (answers : List ℕ) (rid count base : ℕ) (code : List Instr) (l₀ old : List ℕ) where
+  abbrev claimed : (w : Setting logs n answers) → ℕ → Claim (machineOf (w .table))
+  claimed w = claimedIn w rid
 
-  abbrev replayed : List Program → (s v left k : ℕ) → Process → Outcome
-  replayed table s v left k p = replayOf table logs n rid (said s v) left k p
+  abbrev replayed : Setting logs n answers → (s v left k : ℕ) → Process → Outcome
+  replayed w s v left k p = replayOf w rid (said s v) left k p
 
   -- what a replay of program `prog` from the start is
-  abbrev Whole : List Program → (prog s v : ℕ) → Outcome
-  Whole table prog s v = replayed table s v count 1 (process prog l₀ 0 0 [])
+  abbrev Whole : Setting logs n answers → (prog s v : ℕ) → Outcome
+  Whole w prog s v = replayed w s v count 1 (process prog l₀ 0 0 [])
 
   pub record Going (l : List ℕ) (at done : ℕ) (paths : List ℕ) (k : ℕ) : Type 0 where
     pub few : done ≤ 256
@@ -112,8 +111,8 @@ module _ (logs : List ℕ) (n rid count base : ℕ) (code : List Instr) (l₀ ol
     pub fits : base + 256 ≤ 16384
     pub room : length paths ≡ 16384
     pub kept : (i : ℕ) → i < base → getD paths i 0 ≡ getD old i 0
-    pub goes : (table : List Program) (prog s v : ℕ) → codeAt table prog ≡ code →
-        replayed table s v (count - k) (suc k) (process prog l at done (pathIn paths base done)) ≡ Whole table prog s v
+    pub goes : (w : Setting logs n answers) (prog s v : ℕ) → codeAt (w .table) prog ≡ code →
+        replayed w s v (count - k) (suc k) (process prog l at done (pathIn paths base done)) ≡ Whole w prog s v
 
   pub going-start : base + 256 ≤ 16384 → length old ≡ 16384 → Going l₀ 0 0 old 0
   unfolding firsts
@@ -124,63 +123,63 @@ module _ (logs : List ℕ) (n rid count base : ℕ) (code : List Instr) (l₀ ol
     fits = f;
     room = r;
     kept = λ i _. refl;
-    goes = λ table prog s v e. let z : count - 0 ≡ count = omega arith in rw z;
+    goes = λ w prog s v e. let z : count - 0 ≡ count = omega arith in rw z;
   }
 
   abbrev Ends : List ℕ → End → Type 0
-  Ends paths end = (a b : ℕ) → l₀ ≡ firstLocals a b → Replays logs n rid count a b base code old paths end
+  Ends paths end = (a b : ℕ) → l₀ ≡ firstLocals a b → Replays logs n answers rid count a b base code old paths end
 
   module _ (l : List ℕ) (at done : ℕ) (paths : List ℕ) (k : ℕ) (g : Going l at done paths k) where
     abbrev here : ℕ → Process
     here prog = process prog l at done (pathIn paths base done)
 
-    from-start : (table : List Program) (prog s v : ℕ) → codeAt table prog ≡ code → (a b : ℕ) → l₀ ≡ firstLocals a b →
-        replayed table s v (count - k) (suc k) (here prog)
-        ≡ replayed table s v count 1 (machineOf table .start prog a b)
-    from-start table prog s v c a b d =
-        g .goes table prog s v c ∙ ap (λ l. replayed table s v count 1 (process prog l 0 0 [])) d
+    from-start : (w : Setting logs n answers) (prog s v : ℕ) → codeAt (w .table) prog ≡ code → (a b : ℕ) → l₀ ≡ firstLocals a b →
+        replayed w s v (count - k) (suc k) (here prog)
+        ≡ replayed w s v count 1 (machineOf (w .table) .start prog a b)
+    from-start w prog s v c a b d =
+        g .goes w prog s v c ∙ ap (λ l. replayed w s v count 1 (process prog l 0 0 [])) d
 
     -- a request that stops with status s′ and value v′: the report counts its operations, or not
     stopping : (paths′ : List ℕ) (done′ s′ v′ : ℕ) {path : List ℕ} → length paths′ ≡ 16384 → ((i : ℕ) → i < base →
         getD paths′ i 0 ≡ getD old i 0) →
         done′ ≤ 256 → pathIn paths′ base done′ ≡ path →
-        ((table : List Program) (prog : ℕ) → codeAt table prog ≡ code → machineOf table .advance (here prog) ≡ stop s′ v′) →
-        ((table : List Program) (prog : ℕ) → codeAt table prog ≡ code → machineOf table .pathAtEnd (here prog) ≡ prog ∷ path) →
+        ((w : Setting logs n answers) (prog : ℕ) → codeAt (w .table) prog ≡ code → machineOf (w .table) .advance (here prog) ≡ stop s′ v′) →
+        ((w : Setting logs n answers) (prog : ℕ) → codeAt (w .table) prog ≡ code → machineOf (w .table) .pathAtEnd (here prog) ≡ prog ∷ path) →
         (end : End) → end ≡ cond (eqb k count) (Ended s′ v′ done′) Differs → Ends paths′ end
     stopping paths′ done′ s′ v′ room kept few path next last end e a b start = byEq k count
         (λ p t.
         let c : end ≡ Ended s′ v′ done′ = rw t at e in
         let z : count - k ≡ 0 = omega arith in
-        subst (Replays logs n rid count a b base code old paths′) (sym c) (record {
+        subst (Replays logs n answers rid count a b base code old paths′) (sym c) (record {
           room = room;
           kept = kept;
           few = few;
-          outcome = λ table prog s v d.
-              ap (λ w. ended (said s′ v′) (prog ∷ w)) path ∙ ap (ended (said s′ v′)) (sym (last table prog d))
-              ∙ sym (rw z (ends (machineOf table) (claimed table) s v (suc k) (here prog) s′ v′ (next table prog d)))
-              ∙ from-start table prog s v d a b start;
+          outcome = λ w prog s v d.
+              ap (λ w. ended (said s′ v′) (prog ∷ w)) path ∙ ap (ended (said s′ v′)) (sym (last w prog d))
+              ∙ sym (rw z (ends (machineOf (w .table)) (claimed w) s v (suc k) (here prog) s′ v′ (next w prog d)))
+              ∙ from-start w prog s v d a b start;
         }))
         (λ p t.
         let c : end ≡ Differs = rw t at e in
         let z : count - k ≡ suc (count - k - 1) = omega (arith, g .counted) in
-        subst (Replays logs n rid count a b base code old paths′) (sym c) (record {
+        subst (Replays logs n answers rid count a b base code old paths′) (sym c) (record {
           room = room;
           kept = kept;
           few = omega arith;
-          outcome = λ table prog s v d.
-              sym (rw z (too-few (machineOf table) (claimed table) s v (suc k) (here prog) (count - k - 1) s′ v′ (next table prog d)))
-              ∙ from-start table prog s v d a b start;
+          outcome = λ w prog s v d.
+              sym (rw z (too-few (machineOf (w .table)) (claimed w) s v (suc k) (here prog) (count - k - 1) s′ v′ (next w prog d)))
+              ∙ from-start w prog s v d a b start;
         }))
 
     -- a request that has used up its instructions is cut off
     pub going-cut : 256 ≤ done → (end : End) → end ≡ cond (eqb k count) (Ended 1 0 done) Differs → Ends paths end
     going-cut h end e =
         stopping paths done 1 0 (g .room) (g .kept) (g .few) refl
-        (λ table prog d. ap (λ t. nextOf (t .stop .next)) (cut table prog)) (λ table prog d. ap (λ t. prog ∷ t .path) (cut table prog)) end e
+        (λ w prog d. ap (λ t. nextOf (t .stop .next)) (cut w prog)) (λ w prog d. ap (λ t. prog ∷ t .path) (cut w prog)) end e
       where
-        cut : (table : List Program) (prog : ℕ) →
-            gone limit table (here prog) ≡ advanced l (stopAt at done Cut) (pathIn paths base done)
-        cut table prog = cut-off limit table (here prog) (omega arith)
+        cut : (w : Setting logs n answers) (prog : ℕ) →
+            gone limit (w .table) (here prog) ≡ advanced l (stopAt at done Cut) (pathIn paths base done)
+        cut w prog = cut-off limit (w .table) (here prog) (omega arith)
 
     module _ (h : done < 256) (m : List ℕ) (x : Act) (e : effectOf l (getD code (at % 64) noInstr) (at % 64 + 1) ≡ effect m x) where
       abbrev marked : List ℕ
@@ -195,9 +194,9 @@ module _ (logs : List ℕ) (n rid count base : ℕ) (code : List Instr) (l₀ ol
       path-marked : pathIn marked base (done + 1) ≡ pathIn paths base done ++ (at % 64) ∷ []
       path-marked = path-more base done paths (omega (arith, g .room, g .fits)) (at % 64)
 
-      does : (table : List Program) (prog : ℕ) (y : Act) → codeAt table prog ≡ code → x ≡ y →
-          effectOf l (instrAt (codeAt table prog) at) (at % 64 + 1) ≡ effect m y
-      does table prog y d q = rw d (e ∙ ap (effect m) q)
+      does : (w : Setting logs n answers) (prog : ℕ) (y : Act) → codeAt (w .table) prog ≡ code → x ≡ y →
+          effectOf l (instrAt (codeAt (w .table) prog) at) (at % 64 + 1) ≡ effect m y
+      does w prog y d q = rw d (e ∙ ap (effect m) q)
 
       pub going-moved : (to : ℕ) → x ≡ Goes to → Going m to (done + 1) marked k
       going-moved to q = record {
@@ -207,52 +206,52 @@ module _ (logs : List ℕ) (n rid count base : ℕ) (code : List Instr) (l₀ ol
         fits = g .fits;
         room = room-marked;
         kept = kept-marked;
-        goes = λ table prog s v d.
-            ap (λ path. replayed table s v (count - k) (suc k) (process prog m to (done + 1) path)) path-marked
-            ∙ sym (same-gone table logs n rid s v (count - k) (suc k) (here prog) _ refl
-            (moved limit table (here prog) h m to (does table prog (Goes to) d q)))
-            ∙ g .goes table prog s v d;
+        goes = λ w prog s v d.
+            ap (λ path. replayed w s v (count - k) (suc k) (process prog m to (done + 1) path)) path-marked
+            ∙ sym (same-gone w rid s v (count - k) (suc k) (here prog) _ refl
+            (moved limit (w .table) (here prog) h m to (does w prog (Goes to) d q)))
+            ∙ g .goes w prog s v d;
       }
 
       -- a fault at this instruction
-      differing : ((table : List Program) (prog s v : ℕ) → codeAt table prog ≡ code →
-          replayed table s v (count - k) (suc k) (here prog) ≡ differs) → Ends marked Differs
+      differing : ((w : Setting logs n answers) (prog s v : ℕ) → codeAt (w .table) prog ≡ code →
+          replayed w s v (count - k) (suc k) (here prog) ≡ differs) → Ends marked Differs
       differing f a b d = record {
         room = room-marked;
         kept = kept-marked;
         few = omega arith;
-        outcome = λ table prog s v c. sym (f table prog s v c) ∙ from-start table prog s v c a b d;
+        outcome = λ w prog s v c. sym (f w prog s v c) ∙ from-start w prog s v c a b d;
       }
 
       module _ (o : Op) (into : ℕ) (q : x ≡ Asks o into) where
-        asks : (table : List Program) (prog : ℕ) → codeAt table prog ≡ code →
-            gone limit table (here prog) ≡ advanced m (stopAt (at % 64 + 1) (done + 1) (Operation o into))
+        asks : (w : Setting logs n answers) (prog : ℕ) → codeAt (w .table) prog ≡ code →
+            gone limit (w .table) (here prog) ≡ advanced m (stopAt (at % 64 + 1) (done + 1) (Operation o into))
             (pathIn paths base done ++ (at % 64) ∷ [])
-        asks table prog d = asked limit table (here prog) h m o into (does table prog (Asks o into) d q)
+        asks w prog d = asked limit (w .table) (here prog) h m o into (does w prog (Asks o into) d q)
 
-        next : (table : List Program) (prog : ℕ) → codeAt table prog ≡ code → machineOf table .advance (here prog) ≡ op o
-        next table prog d = ap (λ t. nextOf (t .stop .next)) (asks table prog d)
+        next : (w : Setting logs n answers) (prog : ℕ) → codeAt (w .table) prog ≡ code → machineOf (w .table) .advance (here prog) ≡ op o
+        next w prog d = ap (λ t. nextOf (t .stop .next)) (asks w prog d)
 
         pub going-over : count ≤ k → Ends marked Differs
-        going-over z = differing (λ table prog s v d.
-            let w : count - k ≡ 0 = omega arith in
-            rw w (one-more (machineOf table) (claimed table) s v (suc k) (here prog) o (next table prog d)))
+        going-over z = differing (λ w prog s v d.
+            let z′ : count - k ≡ 0 = omega arith in
+            rw z′ (one-more (machineOf (w .table)) (claimed w) s v (suc k) (here prog) o (next w prog d)))
 
         module _ (low : k < count) where
           left : count - k ≡ suc (count - (k + 1))
           left = omega arith
 
-          answer : (y z : Answered) → Answers logs n rid (k + 1) o y → y ≡ z → (table : List Program) →
-              compare (machineOf table) o (claimed table (suc k)) ≡ answeredAs z
-          answer y z f p table =
-              sym (subst (λ j. answeredAs y ≡ compare (machineOf table) o (claimed table j)) (add-one k) (f table)) ∙ ap answeredAs p
+          answer : (y z : Answered) → Answers logs n answers rid (k + 1) o y → y ≡ z → (w : Setting logs n answers) →
+              compare (machineOf (w .table)) o (claimed w (suc k)) ≡ answeredAs z
+          answer y z f p w =
+              sym (subst (λ j. answeredAs y ≡ compare (machineOf (w .table)) o (claimed w j)) (add-one k) (f w)) ∙ ap answeredAs p
 
-          pub going-wrong : (y : Answered) → Answers logs n rid (k + 1) o y → y ≡ Wrong → Ends marked Differs
-          going-wrong y f p = differing (λ table prog s v d.
-              rw left (unanswered (machineOf table) (claimed table) s v (suc k) (here prog) (count - (k + 1)) o (next table prog d)
-              (answer y Wrong f p table)))
+          pub going-wrong : (y : Answered) → Answers logs n answers rid (k + 1) o y → y ≡ Wrong → Ends marked Differs
+          going-wrong y f p = differing (λ w prog s v d.
+              rw left (unanswered (machineOf (w .table)) (claimed w) s v (suc k) (here prog) (count - (k + 1)) o (next w prog d)
+              (answer y Wrong f p w)))
 
-          pub going-right : (y : Answered) (u : ℕ) → Answers logs n rid (k + 1) o y → y ≡ Right u →
+          pub going-right : (y : Answered) (u : ℕ) → Answers logs n answers rid (k + 1) o y → y ≡ Right u →
               Going (resumed m into u) (at % 64 + 1) (done + 1) marked (k + 1)
           going-right y u f p = record {
             few = omega arith;
@@ -261,27 +260,27 @@ module _ (logs : List ℕ) (n rid count base : ℕ) (code : List Instr) (l₀ ol
             fits = g .fits;
             room = room-marked;
             kept = kept-marked;
-            goes = λ table prog s v d.
+            goes = λ w prog s v d.
                 let r = process prog (resumed m into u) (at % 64 + 1) (done + 1) in
-                let a : replayed table s v (count - k) (suc k) (here prog)
-                ≡ replayed table s v (count - (k + 1)) (suc (suc k)) (r (pathIn paths base done ++ (at % 64) ∷ [])) =
+                let a : replayed w s v (count - k) (suc k) (here prog)
+                ≡ replayed w s v (count - (k + 1)) (suc (suc k)) (r (pathIn paths base done ++ (at % 64) ∷ [])) =
                 rw left
-                (answered (machineOf table) (claimed table) s v (suc k) (here prog) (count - (k + 1)) o u (next table prog d)
-                (answer y (Right u) f p table)
-                ∙ ap (λ t. replayed table s v (count - (k + 1)) (suc (suc k)) (resumedWith prog u t))
-                (asks table prog d)) in
-                (λ i. replayed table s v (count - (k + 1)) (suc (add-one k i)) (r (path-marked i))) ∙ sym a
-                ∙ g .goes table prog s v d;
+                (answered (machineOf (w .table)) (claimed w) s v (suc k) (here prog) (count - (k + 1)) o u (next w prog d)
+                (answer y (Right u) f p w)
+                ∙ ap (λ t. replayed w s v (count - (k + 1)) (suc (suc k)) (resumedWith prog u t))
+                (asks w prog d)) in
+                (λ i. replayed w s v (count - (k + 1)) (suc (add-one k i)) (r (path-marked i))) ∙ sym a
+                ∙ g .goes w prog s v d;
           }
 
       -- the end of a request that replies, or is cut off
       pub going-replied : (u : ℕ) → x ≡ Replies u → (end : End) → end ≡ cond (eqb k count) (Ended 0 u (done + 1)) Differs → Ends marked end
       going-replied u q end c =
           stopping marked (done + 1) 0 u room-marked kept-marked (omega arith) path-marked
-          (λ table prog d. ap (λ t. nextOf (t .stop .next)) (replies table prog d)) (λ table prog d. ap (λ t. prog ∷ t .path)
-          (replies table prog d))
+          (λ w prog d. ap (λ t. nextOf (t .stop .next)) (replies w prog d)) (λ w prog d. ap (λ t. prog ∷ t .path)
+          (replies w prog d))
           end c
         where
-          replies : (table : List Program) (prog : ℕ) → codeAt table prog ≡ code →
-              gone limit table (here prog) ≡ advanced m (stopAt (at % 64 + 1) (done + 1) (Reply u)) (pathIn paths base done ++ (at % 64) ∷ [])
-          replies table prog d = replied limit table (here prog) h m u (does table prog (Replies u) d q)
+          replies : (w : Setting logs n answers) (prog : ℕ) → codeAt (w .table) prog ≡ code →
+              gone limit (w .table) (here prog) ≡ advanced m (stopAt (at % 64 + 1) (done + 1) (Reply u)) (pathIn paths base done ++ (at % 64) ∷ [])
+          replies w prog d = replied limit (w .table) (here prog) h m u (does w prog (Replies u) d q)

@@ -4,17 +4,9 @@ use mathlib.Core.List.{List, [], _∷_}
 use mathlib.Core.Path.{_≡_, refl}
 use Prim.Native.Nat.{ℕ, zero, suc, _≤_, _<_}
 use native.Mathlib.Omega.{arith}
-use Rattle.text.specs.Rows.{firsts}
-use Rattle.text.specs.Scans.{FirstFrom}
-use Rattle.text.proofs.RowLaws.{firsts-front}
-use Rattle.ordering.specs.Lists.{All}
-use Rattle.replay.specs.Promises.{stateAt}
-
-module _ {A : Type 0} where
-  pub firsts-all : (P : A → Type 0) (f : ℕ → A) (n i : ℕ) → All P (firsts f n) → i < n → P (f i)
-  firsts-all P f zero i a h = absurd (omega arith)
-  firsts-all P f (suc n) zero a h = (rw (firsts-front f n) at a) .0
-  firsts-all P f (suc n) (suc i) a h = firsts-all P (λ i. f (suc i)) n i ((rw (firsts-front f n) at a) .1) (omega arith)
+use Rattle.basics.specs.Firsts.{firsts}
+use Rattle.basics.specs.Scans.{FirstFrom}
+use Rattle.basics.proofs.Firsts.{firsts-front}
 
 -- the scan behind the first place
 shift : (P : ℕ → Bool) (n s : ℕ) → FirstFrom P 0 (suc n) (suc s) → FirstFrom (λ i. P (suc i)) 0 n s
@@ -22,6 +14,12 @@ shift P n s f = record {
   skipped = λ k _ l h. f .skipped (suc k) (omega arith) (omega arith) (omega arith);
   found = λ h. (omega arith, f .found (omega arith) .1);
 }
+
+-- what i items of a sequence, one after the other, make of a state
+module _ {A S : Type 0} (next : S → A → S) where
+  abbrev pub stateAt : (ℕ → A) → S → ℕ → S
+  stateAt f c zero = c
+  stateAt f c (suc i) = stateAt (λ j. f (suc j)) (next c (f 0)) i
 
 -- h looks for the first item that P holds of, and makes `hit` of it; on the way it has a state
 module _ {A S X : Type 0} (h : S → List A → X) (P : A → Bool) (hit : S → A → X) (next : S → A → S)

@@ -1,35 +1,39 @@
 // The log lines that claim operations, found by request and number, and what they answer.
+use crate::limits::CLAIM_BUCKETS;
+use crate::limits::CLAIM_REMAINDERS;
+use basics::index_of;
+use cells::BUCKETS;
+use cells::CELL_ROWS;
+use machine::REGISTERS;
+use text::ENTRIES;
+use text::ENTRY_ROWS;
 use text::Op;
 use text::entry_at;
 ghost use mathlib.Core.Path.{_≡_};
 ghost use Prim.Native.Nat.{_≤_};
 ghost use lib.ListN.{length, replicate};
+ghost use Rattle.basics.specs.Scans.{FirstFrom};
+ghost use Rattle.text.specs.Formats.{mostEntries};
 ghost use Rattle.text.specs.Held.{entryAt};
-ghost use Rattle.text.specs.Scans.{FirstFrom};
 ghost use Rattle.model.specs.Batch.{claims};
 ghost use Rattle.model.specs.Replay.{sameOp};
-ghost use Rattle.replay.specs.Promises.{bucketOf, Linked, Blank, Prepared, Answers};
+ghost use Rattle.machine.specs.Held.{objects};
+ghost use Rattle.replay.specs.Promises.{bucketOf, Linked, Blank, Prepared, PreparedFrom, Answers, claimBuckets};
 
 fn bucket(rid: u64, num: u64) -> usize
     ensures { λ r. ⌜ r ≡ bucketOf rid num ⌝ }
 {
-    ((rid % 1024 * 67 + num % 1024) % 1024) as usize
-}
-
-fn wide(x: u16) -> usize
-    ensures { λ r. ⌜ r ≡ x ⌝ }
-{
-    x as usize
+    ((rid % CLAIM_REMAINDERS * 67 + num % CLAIM_REMAINDERS) % CLAIM_REMAINDERS) as usize
 }
 
 // Links the first n lines bucket by bucket, in one pass from the back, so that each chain goes downward in the report.
 pub(crate) fn link_lines(
-    logs: &[u64; 6144],
+    logs: &[u64; ENTRY_ROWS],
     n: usize,
-    heads: &mut [u16; 1024],
-    afters: &mut [u16; 1024],
+    heads: &mut [u16; CLAIM_BUCKETS],
+    afters: &mut [u16; ENTRIES],
 )
-    requires { ⌜ (n ≤ 1024) × (now heads ≡ replicate 1024 1024) × (length (now afters) ≡ 1024) ⌝ }
+    requires { ⌜ (n ≤ mostEntries) × (now heads ≡ replicate claimBuckets mostEntries) × (length (now afters) ≡ mostEntries) ⌝ }
     ensures { λ _. ⌜ Linked (entryAt (now (logs .entry))) n 0 (now (heads .exit)) (now (afters .exit)) ⌝ }
 {
     let mut i: usize = n;
@@ -43,7 +47,7 @@ pub(crate) fn link_lines(
     }
 }
 
-fn is_claim(logs: &[u64; 6144], i: usize, rid: u64, num: u64) -> bool
+fn is_claim(logs: &[u64; ENTRY_ROWS], i: usize, rid: u64, num: u64) -> bool
     ensures { λ r. ⌜ r ≡ claims rid num (entryAt (now (logs .entry)) i) ⌝ }
 {
     let x = entry_at(logs, i);
@@ -52,22 +56,22 @@ fn is_claim(logs: &[u64; 6144], i: usize, rid: u64, num: u64) -> bool
 
 // The line that claims an operation, or n.
 pub(crate) fn claim_at(
-    logs: &[u64; 6144],
+    logs: &[u64; ENTRY_ROWS],
     n: usize,
-    heads: &[u16; 1024],
-    afters: &[u16; 1024],
+    heads: &[u16; CLAIM_BUCKETS],
+    afters: &[u16; ENTRIES],
     rid: u64,
     num: u64,
 ) -> usize
-    requires { ⌜ (n ≤ 1024) × Linked (entryAt (now logs)) n 0 (now heads) (now afters) ⌝ }
+    requires { ⌜ (n ≤ mostEntries) × Linked (entryAt (now logs)) n 0 (now heads) (now afters) ⌝ }
     ensures { λ r. ⌜ FirstFrom (λ i. claims rid num (entryAt (now (logs .entry)) i)) 0 n r ⌝ }
 {
-    let mut j = wide(heads[bucket(rid, num)]);
+    let mut j = index_of(heads[bucket(rid, num)]);
     while j < n {
         if is_claim(logs, j, rid, num) {
             return j;
         }
-        j = wide(afters[j]);
+        j = index_of(afters[j]);
     }
     n
 }
@@ -95,17 +99,17 @@ pub enum Answered {
 
 // Operation num of a request, which is o.
 pub(crate) fn answer_of(
-    logs: &[u64; 6144],
+    logs: &[u64; ENTRY_ROWS],
     n: usize,
-    heads: &[u16; 1024],
-    afters: &[u16; 1024],
-    answers: &[u64; 1024],
+    heads: &[u16; CLAIM_BUCKETS],
+    afters: &[u16; ENTRIES],
+    answers: &[u64; ENTRIES],
     rid: u64,
     num: u64,
     o: Op,
 ) -> Answered
-    requires { ⌜ Prepared (now logs) n (now heads) (now afters) (now answers) ⌝ }
-    ensures { λ r. ⌜ Answers (now (logs .entry)) n rid num o r ⌝ }
+    requires { ⌜ Prepared (now logs) n (now heads) (now afters) ⌝ }
+    ensures { λ r. ⌜ Answers (now (logs .entry)) n (now (answers .entry)) rid num o r ⌝ }
 {
     let i = claim_at(logs, n, heads, afters, rid, num);
     if n <= i {
@@ -119,17 +123,22 @@ pub(crate) fn answer_of(
     }
 }
 
-// Links the lines, and has their answers.
+// Links the lines, and has their answers, from the objects that the other arrays hold.
 pub(crate) fn prepare(
-    logs: &[u64; 6144],
+    logs: &[u64; ENTRY_ROWS],
     n: usize,
-    heads: &mut [u16; 1024],
-    afters: &mut [u16; 1024],
-    answers: &mut [u64; 1024],
+    registers: &mut [u64; REGISTERS],
+    cells: &mut [u64; CELL_ROWS],
+    buckets: &mut [u16; BUCKETS],
+    used: usize,
+    heads: &mut [u16; CLAIM_BUCKETS],
+    afters: &mut [u16; ENTRIES],
+    answers: &mut [u64; ENTRIES],
 )
     requires { ⌜ Blank n (now heads) (now afters) (now answers) ⌝ }
-    ensures { λ _. ⌜ Prepared (now (logs .entry)) n (now (heads .exit)) (now (afters .exit)) (now (answers .exit)) ⌝ }
+    ensures { λ _. ⌜ PreparedFrom (objects (now (registers .entry)) (now (cells .entry)) (now (buckets .entry)) used)
+        (now (logs .entry)) n (now (heads .exit)) (now (afters .exit)) (now (answers .exit)) ⌝ }
 {
     link_lines(logs, n, heads, afters);
-    machine::answers(logs, n, answers);
+    machine::answers(logs, n, registers, cells, buckets, used, answers);
 }

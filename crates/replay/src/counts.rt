@@ -1,12 +1,17 @@
 // Row 8: an operation within the count has no log line.
 use crate::claims::claim_at;
+use crate::limits::CLAIM_BUCKETS;
 use machine::Ruling;
+use text::ENTRIES;
+use text::ENTRY_ROWS;
+use text::OF_ROWS;
 use text::of_at;
 ghost use mathlib.Core.List.{[]};
 ghost use mathlib.Core.Path.{_≡_};
 ghost use Prim.Native.Nat.{_≤_};
+ghost use Rattle.basics.specs.Firsts.{firsts};
+ghost use Rattle.text.specs.Formats.{mostEntries};
 ghost use Rattle.text.specs.Held.{ofAt, entryAt};
-ghost use Rattle.text.specs.Rows.{firsts};
 ghost use Rattle.model.specs.Claims.{bad8};
 ghost use Rattle.model.specs.FirstBad.{firstBad};
 ghost use Rattle.model.specs.Batch.{claimed};
@@ -15,14 +20,14 @@ ghost use Rattle.replay.specs.Promises.{Linked};
 
 // Whether one of the first n log lines claims operation num of request rid.
 fn is_claimed(
-    logs: &[u64; 6144],
+    logs: &[u64; ENTRY_ROWS],
     n: usize,
-    heads: &[u16; 1024],
-    afters: &[u16; 1024],
+    heads: &[u16; CLAIM_BUCKETS],
+    afters: &[u16; ENTRIES],
     rid: u64,
     num: u64,
 ) -> bool
-    requires { ⌜ (n ≤ 1024) × Linked (entryAt (now logs)) n 0 (now heads) (now afters) ⌝ }
+    requires { ⌜ (n ≤ mostEntries) × Linked (entryAt (now logs)) n 0 (now heads) (now afters) ⌝ }
     ensures { λ r. ⌜ r ≡ claimed (firsts (entryAt (now (logs .entry))) n) rid num ⌝ }
 {
     claim_at(logs, n, heads, afters, rid, num) < n
@@ -30,14 +35,14 @@ fn is_claimed(
 
 // The first `of` line that counts an operation without a log line.
 pub(crate) fn row_8(
-    ofs: &[u64; 192],
+    ofs: &[u64; OF_ROWS],
     m: usize,
-    logs: &[u64; 6144],
+    logs: &[u64; ENTRY_ROWS],
     n: usize,
-    heads: &[u16; 1024],
-    afters: &[u16; 1024],
+    heads: &[u16; CLAIM_BUCKETS],
+    afters: &[u16; ENTRIES],
 ) -> Ruling
-    requires { ⌜ (n ≤ 1024) × Linked (entryAt (now logs)) n 0 (now heads) (now afters) ⌝ }
+    requires { ⌜ (n ≤ mostEntries) × Linked (entryAt (now logs)) n 0 (now heads) (now afters) ⌝ }
     ensures { λ r. ⌜ brokenLine r
         ≡ firstBad (bad8 (firsts (entryAt (now (logs .entry))) n)) 1 [] (firsts (ofAt (now (ofs .entry))) m) ⌝ }
 {

@@ -1,21 +1,37 @@
 // Rows 8 to 12 of the audit, on a batch that stands in arrays: the counts, the order, and the replay of each request.
 mod claims;
 mod counts;
+mod limits;
 mod lookups;
 mod orders;
 mod replays;
 mod requests;
 
+use basics::least;
+use cells::BUCKETS;
+use cells::CELL_ROWS;
 use claims::prepare;
 use counts::row_8;
+use limits::CLAIM_BUCKETS;
+use limits::NO_LINE;
+use machine::REGISTERS;
 use machine::Ruling;
 use orders::put_order;
 use requests::judge_requests;
+use text::ENTRIES;
+use text::ENTRY_ROWS;
+use text::EVENT_ROWS;
+use text::EVENTS;
+use text::ITEMS;
+use text::OF_ROWS;
+use text::OFS;
 use text::Programs;
 ghost use mathlib.Core.Path.{_≡_};
-ghost use Prim.Native.Nat.{min};
 ghost use lib.ListN.{length};
-ghost use Rattle.replay.specs.Judges.{Judges, OrdersIn};
+ghost use Rattle.text.specs.Held.{mostItems};
+ghost use Rattle.machine.specs.Held.{objects};
+ghost use Rattle.replay.specs.Arrays.{arrays, within};
+ghost use Rattle.replay.specs.Judges.{JudgesFrom, Orders};
 
 // The first fault of rows 8 to 12: row 0 and line 0 where there is none.
 pub struct Fault {
@@ -23,31 +39,40 @@ pub struct Fault {
     pub line: u64,
 }
 
-fn least(x: usize, y: usize) -> usize
-    ensures { λ r. ⌜ r ≡ min x y ⌝ }
-{
-    if x < y { x } else { y }
-}
-
-// Of the first t events, m `of` lines and n log lines, and no more than there is room for.
+// Of the first t events, m `of` lines and n log lines, and no more than there is room for, from the objects that the other arrays hold.
 pub fn judge(
     ps: Programs,
-    events: &[u64; 640],
+    events: &[u64; EVENT_ROWS],
     t: usize,
-    ofs: &[u64; 192],
+    ofs: &[u64; OF_ROWS],
     m: usize,
-    logs: &[u64; 6144],
+    logs: &[u64; ENTRY_ROWS],
     n: usize,
+    registers: &mut [u64; REGISTERS],
+    cells: &mut [u64; CELL_ROWS],
+    buckets: &mut [u16; BUCKETS],
+    used: usize,
 ) -> Fault
-    ensures { λ r. ⌜ Judges ps (now (events .entry)) t (now (ofs .entry)) m (now (logs .entry)) n r ⌝ }
+    ensures { λ r. ⌜ JudgesFrom (objects (now (registers .entry)) (now (cells .entry)) (now (buckets .entry)) used) ps
+        (arrays (now (events .entry)) t (now (ofs .entry)) m (now (logs .entry)) n) r ⌝ }
 {
-    let t = least(t, 128);
-    let m = least(m, 64);
-    let n = least(n, 1024);
-    let mut heads = [1024u16; 1024];
-    let mut afters = [0u16; 1024];
-    let mut answers = [0u64; 1024];
-    prepare(logs, n, &mut heads, &mut afters, &mut answers);
+    let t = least(t, EVENTS);
+    let m = least(m, OFS);
+    let n = least(n, ENTRIES);
+    let mut heads = [NO_LINE; CLAIM_BUCKETS];
+    let mut afters = [0u16; ENTRIES];
+    let mut answers = [0u64; ENTRIES];
+    prepare(
+        logs,
+        n,
+        registers,
+        cells,
+        buckets,
+        used,
+        &mut heads,
+        &mut afters,
+        &mut answers,
+    );
     match row_8(ofs, m, logs, n, &heads, &afters) {
         Ruling::Broken(line) => {
             return Fault {
@@ -57,7 +82,7 @@ pub fn judge(
         }
         Ruling::Kept => {}
     }
-    let mut order = [0u16; 1152];
+    let mut order = [0u16; ITEMS];
     if put_order(events, t, ofs, m, logs, n, &mut order) {
         return Fault { row: 9, line: 0 };
     }
@@ -67,19 +92,19 @@ pub fn judge(
 // The order of the items of such a batch, as places, to the front of `order`: what `judge` found where it found no row 9. It is made again,
 // so that an audit which nobody asks for an order writes none.
 pub fn order_items(
-    events: &[u64; 640],
+    events: &[u64; EVENT_ROWS],
     t: usize,
-    ofs: &[u64; 192],
+    ofs: &[u64; OF_ROWS],
     m: usize,
-    logs: &[u64; 6144],
+    logs: &[u64; ENTRY_ROWS],
     n: usize,
-    order: &mut [u16; 1152],
+    order: &mut [u16; ITEMS],
 )
-    requires { ⌜ length (now order) ≡ 1152 ⌝ }
-    ensures { λ _. ⌜ OrdersIn (now (events .entry)) t (now (ofs .entry)) m (now (logs .entry)) n (now (order .exit)) ⌝ }
+    requires { ⌜ length (now order) ≡ mostItems ⌝ }
+    ensures { λ _. ⌜ Orders (within (arrays (now (events .entry)) t (now (ofs .entry)) m (now (logs .entry)) n)) (now (order .exit)) ⌝ }
 {
-    let t = least(t, 128);
-    let m = least(m, 64);
-    let n = least(n, 1024);
+    let t = least(t, EVENTS);
+    let m = least(m, OFS);
+    let n = least(n, ENTRIES);
     put_order(events, t, ofs, m, logs, n, order);
 }

@@ -1,52 +1,32 @@
 // Lines looked up by their request or group: the first that fits, or the number of lines where none does.
+use text::EVENT_ROWS;
 use text::Event;
+use text::OF_ROWS;
 use text::event_at;
 use text::of_at;
 ghost use mathlib.Core.Path.{_≡_};
 ghost use lib.Dec.{eqb};
+ghost use Rattle.basics.specs.Scans.{FirstFrom};
 ghost use Rattle.text.specs.Held.{eventAt, ofAt};
-ghost use Rattle.text.specs.Scans.{FirstFrom};
-ghost use Rattle.replay.specs.Promises.{opens, closes};
+ghost use Rattle.replay.specs.Promises.{isOf};
 
-fn is_request(e: Event, rid: u64) -> bool
-    ensures { λ r. ⌜ r ≡ opens rid e ⌝ }
+// Whether an event is the response of a rid, or its request.
+fn is_of(e: Event, rid: u64, response: bool) -> bool
+    ensures { λ r. ⌜ r ≡ isOf response rid e ⌝ }
 {
     match e {
-        Event::Request { rid: q, .. } => q == rid,
-        Event::Response { .. } => false,
+        Event::Request { rid: q, .. } => { if response { false } else { q == rid } }
+        Event::Response { rid: q, .. } => { if response { q == rid } else { false } }
     }
 }
 
-fn is_response(e: Event, rid: u64) -> bool
-    ensures { λ r. ⌜ r ≡ closes rid e ⌝ }
-{
-    match e {
-        Event::Request { .. } => false,
-        Event::Response { rid: q, .. } => q == rid,
-    }
-}
-
-// The `request` line of a rid.
-pub(crate) fn request_at(events: &[u64; 640], t: usize, rid: u64) -> usize
-    ensures { λ r. ⌜ FirstFrom (λ i. opens rid (eventAt (now (events .entry)) i)) 0 t r ⌝ }
+// The `response` line of a rid, or its `request` line.
+pub(crate) fn event_of(events: &[u64; EVENT_ROWS], t: usize, rid: u64, response: bool) -> usize
+    ensures { λ r. ⌜ FirstFrom (λ i. isOf response rid (eventAt (now (events .entry)) i)) 0 t r ⌝ }
 {
     let mut i: usize = 0;
     while i < t {
-        if is_request(event_at(events, i), rid) {
-            return i;
-        }
-        i += 1;
-    }
-    t
-}
-
-// The `response` line of a rid.
-pub(crate) fn response_at(events: &[u64; 640], t: usize, rid: u64) -> usize
-    ensures { λ r. ⌜ FirstFrom (λ i. closes rid (eventAt (now (events .entry)) i)) 0 t r ⌝ }
-{
-    let mut i: usize = 0;
-    while i < t {
-        if is_response(event_at(events, i), rid) {
+        if is_of(event_at(events, i), rid, response) {
             return i;
         }
         i += 1;
@@ -55,7 +35,7 @@ pub(crate) fn response_at(events: &[u64; 640], t: usize, rid: u64) -> usize
 }
 
 // The first `of` line of the group that line k has.
-pub(crate) fn first_of_group(ofs: &[u64; 192], m: usize, k: usize) -> usize
+pub(crate) fn first_of_group(ofs: &[u64; OF_ROWS], m: usize, k: usize) -> usize
     ensures { λ r. ⌜ FirstFrom (λ i. eqb (ofAt (now (ofs .entry)) i .group) (ofAt (now (ofs .entry)) k .group)) 0 m r ⌝ }
 {
     let own = of_at(ofs, k);

@@ -1,6 +1,12 @@
 // Row 9: the items of a batch for the merge, log lines first and then trace events, their order, and whether the merge leaves something.
+use text::ENTRY_ROWS;
+use text::EVENT_ROWS;
 use text::Entry;
 use text::Event;
+use text::ITEMS;
+use text::OBJECTS;
+use text::OF_ROWS;
+use text::SLOT_BUCKETS;
 use text::entry_at;
 use text::event_at;
 use text::first_slots;
@@ -9,9 +15,12 @@ use text::slot_of;
 ghost use mathlib.Core.Path.{_≡_};
 ghost use Prim.Native.Nat.{_≤_, _<_, _+_};
 ghost use lib.ListN.{length};
+ghost use Rattle.text.specs.Formats.{mostEntries, mostOfs};
+ghost use Rattle.text.specs.Held.{mostEvents, mostItems};
 ghost use Rattle.text.specs.Slots.{Slots};
 ghost use Rattle.model.specs.Batch.{ev, ln};
-ghost use Rattle.replay.specs.Judges.{nodeAt, Orders};
+ghost use Rattle.replay.specs.Arrays.{arrays, nodeAt};
+ghost use Rattle.replay.specs.Judges.{Orders};
 ghost use Rattle.replay.specs.Promises.{ItemIs, ItemsTo, Returns};
 
 // An item's lane (0 the trace, 1 + object), the slot of its request, and its number there.
@@ -21,21 +30,21 @@ pub struct Item {
     pub number: u16,
 }
 
-fn line_item(ofs: &[u64; 192], m: usize, heads: &[u8; 256], x: Entry) -> Item
-    requires { ⌜ (m ≤ 64) × Slots (now ofs) m (now heads) ⌝ }
+fn line_item(ofs: &[u64; OF_ROWS], m: usize, heads: &[u8; SLOT_BUCKETS], x: Entry) -> Item
+    requires { ⌜ (m ≤ mostOfs) × Slots (now ofs) m (now heads) ⌝ }
     ensures { λ r. ⌜ ItemIs (now (ofs .entry)) m (ln x) (r .lane) (r .request) (r .number) ⌝ }
 {
     let s = slot_of(ofs, m, heads, x.rid);
     let o = x.op;
     Item {
-        lane: (o.object % 16 + 1) as u8,
+        lane: (o.object % OBJECTS + 1) as u8,
         request: s as u8,
         number: (x.num % 65536) as u16,
     }
 }
 
-fn event_item(ofs: &[u64; 192], m: usize, heads: &[u8; 256], x: Event) -> Item
-    requires { ⌜ (m ≤ 64) × Slots (now ofs) m (now heads) ⌝ }
+fn event_item(ofs: &[u64; OF_ROWS], m: usize, heads: &[u8; SLOT_BUCKETS], x: Event) -> Item
+    requires { ⌜ (m ≤ mostOfs) × Slots (now ofs) m (now heads) ⌝ }
     ensures { λ r. ⌜ ItemIs (now (ofs .entry)) m (ev x) (r .lane) (r .request) (r .number) ⌝ }
 {
     match x {
@@ -61,15 +70,15 @@ fn event_item(ofs: &[u64; 192], m: usize, heads: &[u8; 256], x: Event) -> Item
 
 // Item i: log line i, or an event.
 fn item_at(
-    events: &[u64; 640],
-    ofs: &[u64; 192],
+    events: &[u64; EVENT_ROWS],
+    ofs: &[u64; OF_ROWS],
     m: usize,
-    heads: &[u8; 256],
-    logs: &[u64; 6144],
+    heads: &[u8; SLOT_BUCKETS],
+    logs: &[u64; ENTRY_ROWS],
     n: usize,
     i: usize,
 ) -> Item
-    requires { ⌜ (m ≤ 64) × Slots (now ofs) m (now heads) ⌝ }
+    requires { ⌜ (m ≤ mostOfs) × Slots (now ofs) m (now heads) ⌝ }
     ensures { λ r. ⌜ ItemIs (now (ofs .entry)) m (nodeAt (now (events .entry)) (now (logs .entry)) n i)
         (r .lane) (r .request) (r .number) ⌝ }
 {
@@ -82,19 +91,19 @@ fn item_at(
 
 // The items, written to the front of the three arrays.
 fn put_items(
-    events: &[u64; 640],
+    events: &[u64; EVENT_ROWS],
     t: usize,
-    ofs: &[u64; 192],
+    ofs: &[u64; OF_ROWS],
     m: usize,
-    logs: &[u64; 6144],
+    logs: &[u64; ENTRY_ROWS],
     n: usize,
-    lane: &mut [u8; 1152],
-    request: &mut [u8; 1152],
-    number: &mut [u16; 1152],
+    lane: &mut [u8; ITEMS],
+    request: &mut [u8; ITEMS],
+    number: &mut [u16; ITEMS],
 )
-    requires { ⌜ (t ≤ 128) × (m ≤ 64) × (n ≤ 1024)
-        × (length (now lane) ≡ 1152) × (length (now request) ≡ 1152) × (length (now number) ≡ 1152) ⌝ }
-    ensures { λ _. ⌜ ItemsTo (now (events .entry)) (now (ofs .entry)) m (now (logs .entry)) n (n + t)
+    requires { ⌜ (t ≤ mostEvents) × (m ≤ mostOfs) × (n ≤ mostEntries)
+        × (length (now lane) ≡ mostItems) × (length (now request) ≡ mostItems) × (length (now number) ≡ mostItems) ⌝ }
+    ensures { λ _. ⌜ ItemsTo (arrays (now (events .entry)) t (now (ofs .entry)) m (now (logs .entry)) n) (n + t)
         (now (lane .exit)) (now (request .exit)) (now (number .exit)) ⌝ }
 {
     let heads = first_slots(ofs, m);
@@ -110,21 +119,21 @@ fn put_items(
 
 // The order of the items, as places, to the front of `order`, and whether it returns to itself: the merge leaves something over.
 pub(crate) fn put_order(
-    events: &[u64; 640],
+    events: &[u64; EVENT_ROWS],
     t: usize,
-    ofs: &[u64; 192],
+    ofs: &[u64; OF_ROWS],
     m: usize,
-    logs: &[u64; 6144],
+    logs: &[u64; ENTRY_ROWS],
     n: usize,
-    order: &mut [u16; 1152],
+    order: &mut [u16; ITEMS],
 ) -> bool
-    requires { ⌜ (t ≤ 128) × (m ≤ 64) × (n ≤ 1024) × (length (now order) ≡ 1152) ⌝ }
-    ensures returns { λ r. ⌜ Returns (now (events .entry)) t (now (ofs .entry)) m (now (logs .entry)) n r ⌝ }
-    ensures order { λ _. ⌜ Orders (now (events .entry)) t (now (ofs .entry)) m (now (logs .entry)) n (now (order .exit)) ⌝ }
+    requires { ⌜ (t ≤ mostEvents) × (m ≤ mostOfs) × (n ≤ mostEntries) × (length (now order) ≡ mostItems) ⌝ }
+    ensures returns { λ r. ⌜ Returns (arrays (now (events .entry)) t (now (ofs .entry)) m (now (logs .entry)) n) r ⌝ }
+    ensures order { λ _. ⌜ Orders (arrays (now (events .entry)) t (now (ofs .entry)) m (now (logs .entry)) n) (now (order .exit)) ⌝ }
 {
-    let mut lane = [0u8; 1152];
-    let mut request = [0u8; 1152];
-    let mut number = [0u16; 1152];
+    let mut lane = [0u8; ITEMS];
+    let mut request = [0u8; ITEMS];
+    let mut number = [0u16; ITEMS];
     put_items(
         events,
         t,

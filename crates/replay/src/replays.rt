@@ -1,20 +1,28 @@
 // The replay of one request against the log lines that claim its operations.
 use crate::claims::Answered;
 use crate::claims::answer_of;
+use crate::limits::CLAIM_BUCKETS;
+use crate::limits::PATH_ROW;
+use crate::limits::PATH_ROWS;
 use machine::Act;
 use machine::LIMIT;
 use machine::carry_out;
 use machine::first_locals;
 use machine::resume;
+use text::ENTRIES;
+use text::ENTRY_ROWS;
 use text::Of;
+use text::POSITIONS;
 use text::Program;
 ghost use mathlib.Core.Path.{_≡_};
 ghost use mathlib.Core.Bool.{cond};
 ghost use Prim.Native.Nat.{_*_, _<_};
 ghost use lib.Dec.{eqb};
 ghost use lib.ListN.{length};
+ghost use Rattle.text.specs.Formats.{mostOfs};
+ghost use Rattle.machine.specs.Processes.{limit};
 ghost use Rattle.replay.specs.declared.replays.End.the-variants.{Differs, Ended};
-ghost use Rattle.replay.specs.Promises.{Prepared, Replays};
+ghost use Rattle.replay.specs.Promises.{Prepared, Replays, pathRoom};
 
 // A request as it arrives.
 pub struct Arrival {
@@ -46,26 +54,26 @@ pub(crate) fn replay(
     start: Arrival,
     x: Of,
     slot: usize,
-    logs: &[u64; 6144],
+    logs: &[u64; ENTRY_ROWS],
     n: usize,
-    heads: &[u16; 1024],
-    afters: &[u16; 1024],
-    answers: &[u64; 1024],
-    paths: &mut [u8; 16384],
+    heads: &[u16; CLAIM_BUCKETS],
+    afters: &[u16; ENTRIES],
+    answers: &[u64; ENTRIES],
+    paths: &mut [u8; PATH_ROWS],
 ) -> End
-    requires { ⌜ (slot < 64) × (length (now paths) ≡ 16384) × Prepared (now logs) n (now heads) (now afters) (now answers) ⌝ }
-    ensures { λ r. ⌜ Replays (now (logs .entry)) n (x .rid) (x .count) (start .a) (start .b) (slot * 256)
+    requires { ⌜ (slot < mostOfs) × (length (now paths) ≡ pathRoom) × Prepared (now logs) n (now heads) (now afters) ⌝ }
+    ensures { λ r. ⌜ Replays (now (logs .entry)) n (now (answers .entry)) (x .rid) (x .count) (start .a) (start .b) (slot * limit)
         (p .code) (now (paths .entry)) (now (paths .exit)) r ⌝ }
 {
     let mut l = first_locals(start.a, start.b);
     let rid = x.rid;
     let count = x.count;
-    let base = slot * 256;
+    let base = slot * PATH_ROW;
     let mut at: u64 = 0;
     let mut done: usize = 0;
     let mut k: u64 = 0;
     while done < LIMIT {
-        let here = at % 64;
+        let here = at % POSITIONS;
         let i = p.code[here as usize];
         paths[base + done] = here as u8;
         done += 1;

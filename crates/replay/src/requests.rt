@@ -1,21 +1,32 @@
 // Rows 10 to 12: each request replayed by itself, in arrival order.
 use crate::Fault;
+use crate::limits::CLAIM_BUCKETS;
+use crate::limits::PATH_ROW;
+use crate::limits::PATH_ROWS;
+use crate::lookups::event_of;
 use crate::lookups::first_of_group;
-use crate::lookups::request_at;
-use crate::lookups::response_at;
 use crate::replays::Arrival;
 use crate::replays::End;
 use crate::replays::replay;
+use text::ENTRIES;
+use text::ENTRY_ROWS;
+use text::EVENT_ROWS;
 use text::Event;
+use text::OF_ROWS;
+use text::OFS;
+use text::PROGRAM_NUMBERS;
 use text::Programs;
 use text::event_at;
 use text::of_at;
 ghost use mathlib.Core.Path.{_≡_};
 ghost use Prim.Native.Nat.{_*_, _≤_, _<_};
 ghost use lib.ListN.{getD};
+ghost use Rattle.text.specs.Formats.{mostOfs};
 ghost use Rattle.text.specs.Held.{eventAt};
 ghost use Rattle.model.specs.Audit.{samePath};
 ghost use Rattle.model.specs.Replay.{silent, said, ended};
+ghost use Rattle.machine.specs.Processes.{limit};
+ghost use Rattle.replay.specs.Arrays.{arrays};
 ghost use Rattle.replay.specs.Promises.{
   pathIn,
   outcomeIn,
@@ -34,7 +45,7 @@ pub struct Said {
     pub value: u64,
 }
 
-fn arrival_at(events: &[u64; 640], i: usize) -> Arrival
+fn arrival_at(events: &[u64; EVENT_ROWS], i: usize) -> Arrival
     ensures { λ r. ⌜ r ≡ arrivalOf (eventAt (now (events .entry)) i) ⌝ }
 {
     match event_at(events, i) {
@@ -47,7 +58,7 @@ fn arrival_at(events: &[u64; 640], i: usize) -> Arrival
     }
 }
 
-fn reply_at(events: &[u64; 640], i: usize) -> Said
+fn reply_at(events: &[u64; EVENT_ROWS], i: usize) -> Said
     ensures { λ r. ⌜ r ≡ replyOf (eventAt (now (events .entry)) i) ⌝ }
 {
     match event_at(events, i) {
@@ -69,13 +80,13 @@ fn done_of(e: End) -> usize
 }
 
 // The first `done` positions of two rows are the same.
-fn same_path(paths: &[u8; 16384], j: usize, k: usize, done: usize) -> bool
-    requires { ⌜ (j < 64) × (k < 64) × (done ≤ 256) ⌝ }
-    ensures { λ r. ⌜ r ≡ samePath (pathIn (now (paths .entry)) (j * 256) done) (pathIn (now (paths .entry)) (k * 256) done) ⌝ }
+fn same_path(paths: &[u8; PATH_ROWS], j: usize, k: usize, done: usize) -> bool
+    requires { ⌜ (j < mostOfs) × (k < mostOfs) × (done ≤ limit) ⌝ }
+    ensures { λ r. ⌜ r ≡ samePath (pathIn (now (paths .entry)) (j * limit) done) (pathIn (now (paths .entry)) (k * limit) done) ⌝ }
 {
     let mut i: usize = 0;
     while i < done {
-        if paths[j * 256 + i] != paths[k * 256 + i] {
+        if paths[j * PATH_ROW + i] != paths[k * PATH_ROW + i] {
             return false;
         }
         i += 1;
@@ -84,8 +95,14 @@ fn same_path(paths: &[u8; 16384], j: usize, k: usize, done: usize) -> bool
 }
 
 // The path kept for the request in slot k is that of the one in slot f, which most often is itself.
-fn along(progs: &[u64; 64], lengths: &[usize; 64], paths: &[u8; 16384], k: usize, f: usize) -> bool
-    requires { ⌜ (k < 64) × (f < 64) × (getD (now lengths) k 0 ≤ 256) ⌝ }
+fn along(
+    progs: &[u64; OFS],
+    lengths: &[usize; OFS],
+    paths: &[u8; PATH_ROWS],
+    k: usize,
+    f: usize,
+) -> bool
+    requires { ⌜ (k < mostOfs) × (f < mostOfs) × (getD (now lengths) k 0 ≤ limit) ⌝ }
     ensures { λ r. ⌜ r ≡ samePath (pathAt (now (progs .entry)) (now (lengths .entry)) (now (paths .entry)) k)
         (pathAt (now (progs .entry)) (now (lengths .entry)) (now (paths .entry)) f) ⌝ }
 {
@@ -106,14 +123,14 @@ fn along(progs: &[u64; 64], lengths: &[usize; 64], paths: &[u8; 16384], k: usize
 fn row_of(
     end: End,
     reply: Said,
-    progs: &[u64; 64],
-    lengths: &[usize; 64],
-    paths: &[u8; 16384],
+    progs: &[u64; OFS],
+    lengths: &[usize; OFS],
+    paths: &[u8; PATH_ROWS],
     k: usize,
     f: usize,
 ) -> u64
-    requires { ⌜ (k < 64) × (f < 64) × (getD (now lengths) k 0 ≡ doneIn end) × (doneIn end ≤ 256) ⌝ }
-    ensures { λ r. ⌜ r ≡ rowOf (outcomeIn (getD (now (progs .entry)) k 0) (now (paths .entry)) (k * 256) end)
+    requires { ⌜ (k < mostOfs) × (f < mostOfs) × (getD (now lengths) k 0 ≡ doneIn end) × (doneIn end ≤ limit) ⌝ }
+    ensures { λ r. ⌜ r ≡ rowOf (outcomeIn (getD (now (progs .entry)) k 0) (now (paths .entry)) (k * limit) end)
         (said (reply .status) (reply .value)) (ended silent (pathAt (now (progs .entry)) (now (lengths .entry)) (now (paths .entry)) f)) ⌝ }
 {
     match end {
@@ -134,33 +151,34 @@ fn row_of(
     }
 }
 
-// The first fault of rows 10 to 12. A path is kept in its request's row of `paths`, of 256 positions.
+// The first fault of rows 10 to 12. A path is kept in its request's row of `paths`.
 pub(crate) fn judge_requests(
     ps: Programs,
-    events: &[u64; 640],
+    events: &[u64; EVENT_ROWS],
     t: usize,
-    ofs: &[u64; 192],
+    ofs: &[u64; OF_ROWS],
     m: usize,
-    logs: &[u64; 6144],
+    logs: &[u64; ENTRY_ROWS],
     n: usize,
-    heads: &[u16; 1024],
-    afters: &[u16; 1024],
-    answers: &[u64; 1024],
+    heads: &[u16; CLAIM_BUCKETS],
+    afters: &[u16; ENTRIES],
+    answers: &[u64; ENTRIES],
 ) -> Fault
-    requires { ⌜ (m ≤ 64) × Prepared (now logs) n (now heads) (now afters) (now answers) ⌝ }
-    ensures { λ r. ⌜ JudgesRequests (ps .table) (now (events .entry)) t (now (ofs .entry)) m (now (logs .entry)) n r ⌝ }
+    requires { ⌜ (m ≤ mostOfs) × Prepared (now logs) n (now heads) (now afters) ⌝ }
+    ensures { λ r. ⌜ JudgesRequests (ps .table) (arrays (now (events .entry)) t (now (ofs .entry)) m (now (logs .entry)) n)
+        (now (answers .entry)) r ⌝ }
 {
-    let mut paths = [0u8; 16384];
-    let mut lengths = [0usize; 64];
-    let mut progs = [0u64; 64];
+    let mut paths = [0u8; PATH_ROWS];
+    let mut lengths = [0usize; OFS];
+    let mut progs = [0u64; OFS];
     let mut k: usize = 0;
     while k < m {
         let f = first_of_group(ofs, m, k);
         let x = of_at(ofs, k);
-        let start = arrival_at(events, request_at(events, t, x.rid));
-        let reply = reply_at(events, response_at(events, t, x.rid));
+        let start = arrival_at(events, event_of(events, t, x.rid, false));
+        let reply = reply_at(events, event_of(events, t, x.rid, true));
         let prog = start.prog;
-        let p = ps.table[(prog % 16) as usize];
+        let p = ps.table[(prog % PROGRAM_NUMBERS) as usize];
         let end = replay(p, start, x, k, logs, n, heads, afters, answers, &mut paths);
         progs[k] = prog;
         lengths[k] = done_of(end);

@@ -9,7 +9,7 @@ use Rattle.lines.specs.Bytes.{bytes}
 use Rattle.lines.specs.Number.{pushOf, digitsOf, numberOf}
 use Rattle.lines.specs.Parts.{onto, parts}
 use Rattle.lines.specs.Line.{prefix, fieldOf, fieldsOf, lineOf}
-use Rattle.text.specs.Text.{Read, readable, unreadable, within, count, addLine, readLines, readText}
+use Rattle.text.specs.Text.{Read, readable, unreadable, within, addLine, readLines, readText}
 use Rattle.text.specs.Programs.{addProgram, addDo, readPrograms}
 use Rattle.text.specs.Trace.{addRequest, addResponse, readTrace}
 use Rattle.text.specs.Report.{addOf, addLog, readReport}
@@ -128,13 +128,13 @@ traces :
     ∷ replicate 65536 120
     ∷ [])
     ≡ none ∷ none ∷ some 1 ∷ some 1 ∷ some 1 ∷ some 1 ∷ some 1 ∷ some 2 ∷ none ∷ some 65 ∷ none ∷ some 65 ∷ some 0 ∷ []
-unfolding readTrace readText readLines addLine addRequest addResponse count within lineOf fieldsOf fieldOf prefix parts onto numberOf
+unfolding readTrace readText readLines addLine addRequest addResponse within lineOf fieldsOf fieldOf prefix parts onto numberOf
     digitsOf pushOf
 traces = refl
 
 lines-of-trace :
     readTrace (bytes "request=1,2,3,4\nresponse=1,0,9\n") ≡ readable (Request 1 2 3 4 ∷ Response 1 0 9 ∷ [])
-unfolding readTrace readText readLines addLine addRequest addResponse count within lineOf fieldsOf fieldOf prefix parts onto numberOf
+unfolding readTrace readText readLines addLine addRequest addResponse within lineOf fieldsOf fieldOf prefix parts onto numberOf
     digitsOf pushOf
 lines-of-trace = refl
 
@@ -184,12 +184,12 @@ schedules :
     ∷ replicate 65536 120
     ∷ [])
     ≡ none ∷ none ∷ some 1 ∷ some 1 ∷ some 1 ∷ some 1 ∷ none ∷ some 65 ∷ none ∷ some 0 ∷ []
-unfolding readSchedule readText readLines addLine addArrive addTurn count within lineOf fieldsOf fieldOf prefix parts onto numberOf digitsOf
+unfolding readSchedule readText readLines addLine addArrive addTurn within lineOf fieldsOf fieldOf prefix parts onto numberOf digitsOf
     pushOf
 schedules = refl
 
 lines-of-schedule :
     readSchedule (bytes "arrive=1,2,3,4\nturn=1\n") ≡ readable (Arrive 1 2 3 4 ∷ Turn 1 ∷ [])
-unfolding readSchedule readText readLines addLine addArrive addTurn count within lineOf fieldsOf fieldOf prefix parts onto numberOf digitsOf
+unfolding readSchedule readText readLines addLine addArrive addTurn within lineOf fieldsOf fieldOf prefix parts onto numberOf digitsOf
     pushOf
 lines-of-schedule = refl

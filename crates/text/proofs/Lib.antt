@@ -1,7 +1,9 @@
+pub mod CodeLaws
 pub mod Reading
-pub mod Alternatives
+pub mod LineKinds
 pub mod RowLaws
-pub mod ScanLaws
+pub mod RowPuts
+pub mod SlotLaws
 pub mod TraceReading
 pub mod ReportReading
 pub mod ScheduleReading

@@ -10,34 +10,28 @@ use lib.ListN.{length, getD, take, set, replicate, length-append, length-set, le
 use lib.Seq.{getD-set-same, getD-set-other, take-suc-set}
 use lib.Dec.{ltb, eqb}
 use borrow.Author.Tests.{ltb-true, ltb-false, eqb-true, eqb-false}
-use Rattle.lines.specs.Place.{cells}
+use Rattle.basics.specs.Firsts.{firsts}
+use Rattle.basics.proofs.Firsts.{firsts-length, firsts-same}
+use Rattle.basics.proofs.Tests.{clash}
 use Rattle.lines.proofs.Prefix.{unbroken}
 use Rattle.text.specs.Text.{readable, unreadable, readText}
-use Rattle.text.specs.Formats.{programLine, doLine}
 use Rattle.text.specs.Programs.{noInstr, noProgram, instrFrom, begun, withInstr, inFrontOf, addProgram, addDo, programKinds, readPrograms}
-use Rattle.text.specs.Rows.{firsts}
 use Rattle.text.specs.Held.{trimmed, programAt, programsIn, Bounded, ProgramsIs, tableIn, unreadablePrograms}
-use Rattle.text.specs.Steps.{eitherAt, toldIn}
-use Rattle.text.specs.declared.kinds.Line.{Line}
-use Rattle.text.specs.declared.kinds.Line.the-variants.{First, Second, Neither}
 use Rattle.text.specs.declared.programs.Instr.{Instr}
 use Rattle.text.specs.declared.programs.Program.{Program}
 use Rattle.text.specs.declared.programs.Programs.{Programs}
 use Rattle.text.proofs.Reading.{
   within-yes,
   within-no,
+  Fits,
   Reading,
-  Adds,
   reading-long,
   reading-start,
   reading-done,
-  reading-none,
-  reading-cut,
   reading-refused,
   reading-taken,
 }
-use Rattle.text.proofs.Alternatives.{clash, is-first, is-second, is-neither}
-use Rattle.text.proofs.RowLaws.{firsts-length, firsts-same}
+use Rattle.text.proofs.LineKinds.{apart}
 
 -- ── an instruction joins the last program ──
 
@@ -101,6 +95,10 @@ module _ (table : List Program) (p : Program) (room : length table ≡ 16) where
 
 -- ── m programs have begun, n instructions of the last are in code, and the text goes on at a place ──
 
+pub programs-apart : apart programKinds ≡ true
+unfolding unbroken
+programs-apart = refl
+
 pub record Held (s : List ℕ) (table : List Program) (number : ℕ) (code : List Instr) (m n line at : ℕ) : Type 0 where
   pub reading : Reading programKinds [] s (held table (program number n code) m) line at
   pub room : length table ≡ 16
@@ -158,7 +156,7 @@ module _ {s : List ℕ} {table : List Program} {number : ℕ} {code : List Instr
   held-done h table′ d =
       let p = program number n code in
       record {
-        read = ap readable (rw d (stored table p (r .room) m (r .few))) ∙ reading-done programKinds [] s (r .reading) h;
+        read = ap readable (rw d (stored table p (r .room) m (r .few))) ∙ reading-done (r .reading) h;
         lineless = λ e. refl;
         unread = λ e. clash (cc);
         few = r .few;
@@ -166,62 +164,40 @@ module _ {s : List ℕ} {table : List Program} {number : ℕ} {code : List Instr
         room = ap length d ∙ length-set table ((m + 15) % 16) p ∙ r .room;
       }
 
-  module _ (h : at < length s) (v : List ℕ) (l : Line) (t : toldIn l 1 4 v ≡ eitherAt programLine doLine s at) where
-    pub held-neither : l ≡ Neither → (a : Programs) → a ≡ unreadablePrograms line → ProgramsIs s a
-    unfolding unbroken
-    held-neither i a d =
-        refused s a line d (reading-none programKinds [] s (r .reading) h (is-neither _ _ [] s at 1 4 v refl refl l t i _))
+  pub held-refused : unreadable line ≡ readText programKinds [] s → (a : Programs) → a ≡ unreadablePrograms line → ProgramsIs s a
+  held-refused h a d = refused s a line d h
 
-    module _ (e : ℕ) (i : l ≡ First e) where
-      pub program-adds : Adds programKinds [] s at e (λ ps. addProgram ps (cells 1 v))
-      unfolding unbroken
-      program-adds = is-first _ _ [] s at 1 4 v refl refl l t e i
-
-      pub program-cut : length s ≤ e → (a : Programs) → a ≡ unreadablePrograms line → ProgramsIs s a
-      program-cut g a d = refused s a line d (reading-cut programKinds [] s (r .reading) h e _ program-adds g)
-
+  module _ (h : at < length s) {e : ℕ} {vs : List ℕ} where
+    module _ (f : Fits programKinds s at 0 e vs) where
       pub program-full : 16 ≤ m → (a : Programs) → a ≡ unreadablePrograms line → ProgramsIs s a
       unfolding addProgram
-      program-full g a d =
-          refused s a line d
-          (reading-refused programKinds [] s (r .reading) h e _ program-adds
-          (within-no _ 16 _ (omega (arith, g, held-length table (program number n code) m))))
+      program-full g =
+          held-refused
+          (reading-refused (r .reading) h f (within-no _ 16 _ (omega (arith, g, held-length table (program number n code) m))))
 
       pub program-on : e < length s → m < 16 → (number′ : ℕ) (table′ : List Program) (code′ : List Instr) →
-          number′ ≡ getD v 0 0 → table′ ≡ set table ((m + 15) % 16) (program number n code) → code′ ≡ replicate 64 noInstr →
+          number′ ≡ getD vs 0 0 → table′ ≡ set table ((m + 15) % 16) (program number n code) → code′ ≡ replicate 64 noInstr →
           Held s table′ number′ code′ (m + 1) 0 (line + 1) (e + 1)
       unfolding addProgram
-      program-on g k number′ table′ code′ b d f =
+      program-on g k number′ table′ code′ b d c =
           let p = program number n code in
-          let w : held table′ (program number′ 0 code′) (m + 1) ≡ held table p m ++ begun (getD v 0 0) ∷ [] =
-          rw (add-one m, d, b) (ap (λ ps. ps ++ begun (getD v 0 0) ∷ []) (stored table p (r .room) m (r .few))) in
-          let x = reading-taken programKinds [] s (r .reading) h e _ program-adds g _
-          (within-yes (length (held table p m)) 16 _ (omega (arith, k, held-length table p m))) in
+          let w : held table′ (program number′ 0 code′) (m + 1) ≡ held table p m ++ begun (getD vs 0 0) ∷ [] =
+          rw (add-one m, d, b) (ap (λ ps. ps ++ begun (getD vs 0 0) ∷ []) (stored table p (r .room) m (r .few))) in
+          let y = within-yes (length (held table p m)) 16 _ (omega (arith, k, held-length table p m)) in
           record {
-            reading = rw w x;
+            reading = rw w (reading-taken (r .reading) h f g _ y);
             room = ap length d ∙ length-set table ((m + 15) % 16) p ∙ r .room;
-            size = ap length f ∙ length-replicate 64 noInstr;
+            size = ap length c ∙ length-replicate 64 noInstr;
             few = omega (arith, k);
             earlier = λ (j : ℕ). λ (q : j + 1 < m + 1).
                 rw d (bounded-stored table p (r .room) m (r .few) (r .earlier) (r .current) j (omega (arith, q)));
-            current = rw f (no-code number′);
+            current = rw c (no-code number′);
           }
 
-    module _ (e : ℕ) (i : l ≡ Second e) where
-      pub do-adds : Adds programKinds [] s at e (λ ps. addDo ps (cells 4 v))
-      unfolding unbroken
-      do-adds = is-second _ _ [] s at 1 4 v refl refl l t e i
-
-      pub do-cut : length s ≤ e → (a : Programs) → a ≡ unreadablePrograms line → ProgramsIs s a
-      do-cut g a d = refused s a line d (reading-cut programKinds [] s (r .reading) h e _ do-adds g)
-
-      do-refused : addDo (held table (program number n code) m) (cells 4 v) ≡ none → (a : Programs) → a ≡ unreadablePrograms line →
-          ProgramsIs s a
-      do-refused g a d = refused s a line d (reading-refused programKinds [] s (r .reading) h e _ do-adds g)
-
+    module _ (f : Fits programKinds s at 1 e vs) where
       pub do-early : m ≡ 0 → (a : Programs) → a ≡ unreadablePrograms line → ProgramsIs s a
       unfolding addDo
-      do-early g = do-refused (rw g refl)
+      do-early g = held-refused (reading-refused (r .reading) h f (rw g refl))
 
       module _ (j : m ≡ 0 → ⊥) where
         before-last : (ps : List Program) × (held table (program number n code) m ≡ ps ++ trimmed (program number n code) ∷ [])
@@ -235,14 +211,16 @@ module _ {s : List ℕ} {table : List Program} {number : ℕ} {code : List Instr
             go (suc k) f = (firsts (programAt table) k, refl, λ q. refl)
 
         pub do-long : 64 ≤ n → (a : Programs) → a ≡ unreadablePrograms line → ProgramsIs s a
-        do-long g = let b = before-last in do-refused (rw (b .1) (do-full (b .0) _ (cells 4 v) g))
+        do-long g a d =
+            let b = before-last in
+            held-refused (reading-refused (r .reading) h f (rw (b .1) (do-full (b .0) _ vs g))) a d
 
-        pub do-on : e < length s → n < 64 → (y : Instr) → y ≡ instrFrom (cells 4 v) →
+        pub do-on : e < length s → n < 64 → (y : Instr) → y ≡ instrFrom vs →
             Held s table number (set code n y) m (n + 1) (line + 1) (e + 1)
         do-on g k y i′ =
             let b = before-last in
             let p = program number n code in
-            let x = instrFrom (cells 4 v) in
+            let x = instrFrom vs in
             let code′ = set code n y in
             let d : code′ ≡ set code n x = ap (set code n) i′ in
             let c : take (n + 1) code′ ≡ take n code ++ x ∷ [] =
@@ -251,9 +229,9 @@ module _ {s : List ℕ} {table : List Program} {number : ℕ} {code : List Instr
             let q = add-one n in λ j′. record { number = number; n = q j′; code = c j′ } in
             let w : held table (program number (n + 1) code′) m ≡ b .0 ++ withInstr (trimmed p) x ∷ [] =
             b .2 (program number (n + 1) code′) ∙ ap (λ q. b .0 ++ q ∷ []) z in
-            let o : addDo (held table p m) (cells 4 v) ≡ some (b .0 ++ withInstr (trimmed p) x ∷ []) =
-            rw (b .1) (do-last (b .0) (trimmed p) (cells 4 v) k) in
-            let u = reading-taken programKinds [] s (r .reading) h e _ do-adds g _ o in
+            let o : addDo (held table p m) vs ≡ some (b .0 ++ withInstr (trimmed p) x ∷ []) =
+            rw (b .1) (do-last (b .0) (trimmed p) vs k) in
+            let u = reading-taken (r .reading) h f g _ o in
             record {
               reading = rw w u;
               room = r .room;
@@ -264,7 +242,7 @@ module _ {s : List ℕ} {table : List Program} {number : ℕ} {code : List Instr
                 few = omega (arith, k);
                 blank = λ (q : ℕ). λ (a : n + 1 ≤ q).
                     ap (λ cs. getD cs q noInstr) d
-                    ∙ getD-set-other code n q x noInstr (λ (f : q ≡ n). absurd (omega (arith, f, a)))
+                    ∙ getD-set-other code n q x noInstr (λ (z : q ≡ n). absurd (omega (arith, z, a)))
                     ∙ r .current .blank q (omega (arith, a));
               };
             }

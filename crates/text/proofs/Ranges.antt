@@ -1,19 +1,32 @@
--- What holds of the numbers of each line, which are in their ranges, holds of all that a readable text holds.
-use Prim.Native.Nat.{ℕ, zero, suc, _≤_, _<_}
+-- What holds of the numbers of each line, which are in their ranges, holds of all that a readable text holds; so a readable trace and a
+-- readable report are in range.
+use Prim.Native.Nat.{ℕ, zero, suc, _+_, _≤_, _<_}
 use mathlib.Core.Bool.{Bool, true, false}
-use mathlib.Core.List.{List, [], _∷_}
+use mathlib.Core.List.{List, [], _∷_, _++_}
 use mathlib.Core.Option.{Option, none, some}
 use mathlib.Core.Path.{_≡_, refl, subst}
+use native.Mathlib.Nat.{add-zero}
 use native.Mathlib.Omega.{arith}
 use borrow.Author.Tests.{ltb-true}
 use lib.Dec.{ltb}
-use lib.ListN.{length, getD}
-use Rattle.lines.specs.Line.{Range, InRanges, any, lineOf}
+use lib.ListN.{length, getD, length-append}
+use Rattle.basics.specs.Lists.{All}
+use Rattle.basics.specs.Count.{count}
+use Rattle.basics.proofs.Lists.{count-yes, count-no}
+use Rattle.basics.proofs.Tests.{clash}
+use Rattle.lines.specs.Line.{Range, InRange, InRanges, any, lineOf}
 use Rattle.lines.specs.Parts.{parts}
+use Rattle.lines.specs.Place.{cellsFrom, cells}
 use Rattle.lines.proofs.LineTrip.{line-range}
 use Rattle.text.specs.Text.{Read, readable, unreadable, Kind, within, addLine, readLines, readText}
-use Rattle.text.specs.Written.{All}
-use Rattle.text.proofs.Alternatives.{clash}
+use Rattle.text.specs.Codes.{isOperation}
+use Rattle.text.specs.Formats.{requestLine, responseLine, ofLine, logLine}
+use Rattle.text.specs.Trace.{requestFrom, responseFrom, isRequest, isResponse, addRequest, addResponse, traceKinds, readTrace}
+use Rattle.text.specs.Report.{Report, noLines, ofFrom, entryFrom, addOf, addLog, reportKinds, readReport}
+use Rattle.text.specs.Written.{EventIn, OfIn, EntryIn}
+use Rattle.text.specs.declared.trace.Event.{Event}
+use Rattle.text.specs.declared.trace.Event.the-variants.{Request, Response}
+use Rattle.text.specs.declared.report.Entry.{Entry}
 
 -- ── a fact that each kind of line keeps is kept by a whole text ──
 module _ {S : Type 0} (P : S → Type 0) where
@@ -63,8 +76,127 @@ within-some {A} n m x y e = by (ltb n m) refl e
     by false d e = clash (cc)
 
 -- number i is in its range
+range-in : (rs : List Range) (vs : List ℕ) (i : ℕ) → InRanges rs vs → i < length rs → InRange (getD rs i any) (getD vs i 0)
+range-in [] vs i h k = absurd (omega arith)
+range-in (r ∷ rs) [] i h k = absurd h
+range-in (r ∷ rs) (v ∷ vs) zero h k = h .0
+range-in (r ∷ rs) (v ∷ vs) (suc i) h k = range-in rs vs i (h .1) (omega arith)
+
 pub range-at : (rs : List Range) (vs : List ℕ) (i : ℕ) → InRanges rs vs → i < length rs → getD vs i 0 ≤ getD rs i any .high
-range-at [] vs i h k = absurd (omega arith)
-range-at (r ∷ rs) [] i h k = absurd h
-range-at (r ∷ rs) (v ∷ vs) zero h k = h .0 .below
-range-at (r ∷ rs) (v ∷ vs) (suc i) h k = range-at rs vs i (h .1) (omega arith)
+range-at rs vs i h k = range-in rs vs i h k .below
+
+-- and so are the numbers as a record takes them, one by one
+cells-in : (rs : List Range) (i : ℕ) (v : List ℕ) → ((j : ℕ) → j < length rs → InRange (getD rs j any) (getD v (i + j) 0)) →
+    InRanges rs (cellsFrom (length rs) i v)
+cells-in [] i v h = tt
+cells-in (r ∷ rs) i v h = (
+  subst (λ k. InRange r (getD v k 0)) (add-zero i) (h 0 (omega arith)),
+  cells-in rs (suc i) v (λ j k.
+      let e : i + suc j ≡ suc i + j = omega arith in
+      subst (λ n. InRange (getD rs j any) (getD v n 0)) e (h (suc j) (omega (arith, k)))),
+)
+
+taken-in : (rs : List Range) (vs : List ℕ) → InRanges rs vs → InRanges rs (cells (length rs) vs)
+taken-in rs vs h =
+    cells-in rs 0 vs (λ j k.
+    let e : j ≡ 0 + j = omega arith in
+    subst (λ n. InRange (getD rs j any) (getD vs n 0)) e (range-in rs vs j h k))
+
+all-more : {A : Type 0} (P : A → Type 0) (xs : List A) (x : A) → All P xs → P x → All P (xs ++ x ∷ [])
+all-more P [] x h k = (k, tt)
+all-more P (y ∷ ys) x h k = (h .0, all-more P ys x (h .1) k)
+
+-- ── what a readable trace holds ──
+pub record TraceIn (es : List Event) : Type 0 where
+  pub events : All EventIn es
+  pub requests : count isRequest es ≤ 64
+  pub responses : count isResponse es ≤ 64
+
+request-keeps : Keeps TraceIn (record { format = requestLine; add = addRequest })
+unfolding addRequest
+request-keeps es q vs g h e =
+    let x = requestFrom vs in
+    let w = within-some (count isRequest es) 64 _ _ e in
+    subst TraceIn (w .1)
+    (record {
+      events = all-more EventIn es x (g .events) (taken-in (requestLine .ranges) vs h);
+      requests = omega (arith, w .0, count-yes isRequest es x refl);
+      responses = omega (arith, g .responses, count-no isResponse es x refl);
+    })
+
+response-keeps : Keeps TraceIn (record { format = responseLine; add = addResponse })
+unfolding addResponse
+response-keeps es q vs g h e =
+    let x = responseFrom vs in
+    let w = within-some (count isResponse es) 64 _ _ e in
+    subst TraceIn (w .1)
+    (record {
+      events = all-more EventIn es x (g .events) (taken-in (responseLine .ranges) vs h);
+      requests = omega (arith, g .requests, count-no isRequest es x refl);
+      responses = omega (arith, w .0, count-yes isResponse es x refl);
+    })
+
+pub trace-in : (s : List ℕ) (es : List Event) → readTrace s ≡ readable es → TraceIn es
+unfolding readTrace
+trace-in s es e =
+    text-keeps TraceIn traceKinds (request-keeps, (response-keeps, tt)) [] es s
+    (record { events = tt; requests = omega arith; responses = omega arith }) e
+
+-- each event is a request or a response
+pub events-length : (es : List Event) → length es ≡ count isRequest es + count isResponse es
+events-length [] = refl
+events-length (Request r p a b ∷ es) = omega (arith, events-length es)
+events-length (Response r s v ∷ es) = omega (arith, events-length es)
+
+pub trace-few : (s : List ℕ) (es : List Event) → readTrace s ≡ readable es → length es ≤ 128
+trace-few s es e = let t = trace-in s es e in omega (arith, events-length es, t .requests, t .responses)
+
+-- ── what a readable report holds ──
+pub record ReportIn (r : Report) : Type 0 where
+  pub ofsIn : All OfIn (r .ofs)
+  pub logIn : All EntryIn (r .log)
+  pub fewOfs : length (r .ofs) ≤ 64
+  pub fewEntries : length (r .log) ≤ 1024
+
+of-keeps : Keeps ReportIn (record { format = ofLine; add = addOf })
+unfolding addOf
+of-keeps r q vs g h e = by (r .log) e
+  where
+    by : (ls : List Entry) →
+        elim ls [ [] ↦ within (length (r .ofs)) 64 (record { ofs = r .ofs ++ ofFrom vs ∷ []; log = [] }) | l ∷ ls ↦ none ] ≡ some q →
+        ReportIn q
+    by [] e =
+        let w = within-some (length (r .ofs)) 64 _ _ e in
+        subst ReportIn (w .1)
+        (record {
+          ofsIn = all-more OfIn (r .ofs) (ofFrom vs) (g .ofsIn) (taken-in (ofLine .ranges) vs h);
+          logIn = tt;
+          fewOfs = omega (arith, w .0, length-append (r .ofs) (ofFrom vs ∷ []));
+          fewEntries = omega arith;
+        })
+    by (l ∷ ls) e = clash (cc)
+
+log-keeps : Keeps ReportIn (record { format = logLine; add = addLog })
+unfolding addLog
+log-keeps r q vs g h e = by (isOperation (getD vs 3 0)) refl e
+  where
+    by : (b : Bool) → isOperation (getD vs 3 0) ≡ b →
+        elim b [ true ↦ within (length (r .log)) 1024 (record { ofs = r .ofs; log = r .log ++ entryFrom vs ∷ [] }) | false ↦ none ] ≡ some q →
+        ReportIn q
+    by true o e =
+        let w = within-some (length (r .log)) 1024 _ _ e in
+        let x : EntryIn (entryFrom vs) = record { fields = taken-in (logLine .ranges) vs h; operation = o } in
+        subst ReportIn (w .1)
+        (record {
+          ofsIn = g .ofsIn;
+          logIn = all-more EntryIn (r .log) (entryFrom vs) (g .logIn) x;
+          fewOfs = g .fewOfs;
+          fewEntries = omega (arith, w .0, length-append (r .log) (entryFrom vs ∷ []));
+        })
+    by false o e = clash (cc)
+
+pub report-in : (s : List ℕ) (r : Report) → readReport s ≡ readable r → ReportIn r
+unfolding readReport
+report-in s r e =
+    text-keeps ReportIn reportKinds (of-keeps, (log-keeps, tt)) noLines r s
+    (record { ofsIn = tt; logIn = tt; fewOfs = omega arith; fewEntries = omega arith }) e

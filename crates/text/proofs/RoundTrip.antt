@@ -6,8 +6,11 @@ use mathlib.Core.Bool.{true}
 use mathlib.Core.Path.{_≡_, refl, sym, _∙_, ap, subst}
 use native.Mathlib.Omega.{arith}
 use native.Mathlib.Nat.{mul-suc}
-use lib.ListN.{length, length-append}
+use lib.ListN.{length, getD, length-append}
 use borrow.Author.Tests.{le-ltb}
+use Rattle.basics.specs.Lists.{All}
+use Rattle.basics.specs.Count.{count}
+use Rattle.basics.proofs.Lists.{count-yes, count-no}
 use Rattle.lines.specs.Decimal.{digitsIn, decimal}
 use Rattle.lines.specs.Parts.{parts}
 use Rattle.lines.specs.Line.{prefix}
@@ -15,17 +18,19 @@ use Rattle.lines.specs.LineText.{lineText}
 use Rattle.lines.proofs.Parts.{first-part}
 use Rattle.lines.proofs.Prefix.{unbroken}
 use Rattle.lines.proofs.LineTrip.{joined, parts-glue, line-back, line-not, line-free, line-joined, line-bound}
-use Rattle.text.specs.Text.{readable, Kind, count, addLine, readLines, readText}
-use Rattle.text.specs.Written.{All, linesText, EventIn, eventText, traceText, ofNumbers, entryNumbers, OfIn, EntryIn, ofText, entryText, reportText}
+use Rattle.text.specs.Text.{readable, Kind, addLine, readLines, readText}
+use Rattle.text.specs.Codes.{isOperation}
+use Rattle.text.specs.Written.{linesText, EventIn, eventText, traceText, ofNumbers, entryNumbers, OfIn, EntryIn, ofText, entryText, reportText}
 use Rattle.text.specs.Formats.{requestLine, responseLine, ofLine, logLine}
 use Rattle.text.specs.Trace.{isRequest, isResponse, addRequest, addResponse, traceKinds, readTrace}
-use Rattle.text.specs.Report.{Report, ofFrom, addOf, addLog, reportKinds, readReport}
+use Rattle.text.specs.Report.{Report, ofFrom, entryFrom, addOf, addLog, reportKinds, readReport}
 use Rattle.text.specs.declared.trace.Event.{Event}
 use Rattle.text.specs.declared.trace.Event.the-variants.{Request, Response}
 use Rattle.text.specs.declared.report.Of.{Of}
 use Rattle.text.specs.declared.report.Entry.{Entry}
-use Rattle.text.proofs.Reading.{count-yes, count-no, within-yes}
-use Rattle.text.proofs.Alternatives.{adds-first, adds-second}
+use Rattle.text.proofs.CodeLaws.{narrowLog, entry-range}
+use Rattle.text.proofs.Reading.{within-yes}
+use Rattle.text.proofs.LineKinds.{adds-first, adds-later}
 
 -- ── one line, and then the others ──
 
@@ -87,19 +92,18 @@ pub record Room (past es : List Event) : Type 0 where
 
 event-step : (n : ℕ) (past : List Event) (e : Event) (es : List Event) (r : List ℕ) → Room past (e ∷ es) →
     readLines traceKinds n past (parts 10 (eventText e ++ r)) ≡ readLines traceKinds (suc n) (past ++ e ∷ []) (parts 10 r)
-unfolding eventText addRequest addResponse unbroken prefix count
+unfolding eventText addRequest addResponse unbroken prefix
 event-step n past (Request rid prog a b) es r h =
     line-step traceKinds n past _ (requestLine .word) rid (prog ∷ a ∷ b ∷ []) r refl
     (adds-first _ _ past _ (rid ∷ prog ∷ a ∷ b ∷ []) (line-back requestLine rid (prog ∷ a ∷ b ∷ []) (h .fits .0))
     ∙ within-yes (count isRequest past) 64 _ (omega (arith, h .asks)))
 event-step n past (Response rid status value) es r h =
     line-step traceKinds n past _ (responseLine .word) rid (status ∷ value ∷ []) r refl
-    (adds-second _ _ past _ (line-not requestLine (responseLine .word ++ joined rid (status ∷ value ∷ [])) refl)
-    (rid ∷ status ∷ value ∷ []) (line-back responseLine rid (status ∷ value ∷ []) (h .fits .0))
+    (adds-later _ _ past _ (line-not requestLine (responseLine .word ++ joined rid (status ∷ value ∷ [])) refl)
+    ∙ adds-first _ _ past _ (rid ∷ status ∷ value ∷ []) (line-back responseLine rid (status ∷ value ∷ []) (h .fits .0))
     ∙ within-yes (count isResponse past) 64 _ (omega (arith, h .answers)))
 
 room-more : (past : List Event) (e : Event) (es : List Event) → Room past (e ∷ es) → Room (past ++ e ∷ []) es
-unfolding count
 room-more past (Request rid prog a b) es h =
     record {
       fits = h .fits .1;
@@ -115,7 +119,7 @@ room-more past (Response rid status value) es h =
 
 pub trace-back : (es : List Event) → All EventIn es → count isRequest es ≤ 64 → count isResponse es ≤ 64 →
     length (traceText es) ≤ 65535 → readTrace (traceText es) ≡ readable es
-unfolding readTrace traceText count
+unfolding readTrace traceText
 trace-back es f a b h =
     text-back traceKinds [] es (linesText eventText es) (1 + length es) h
     (ap (λ s. readLines traceKinds 1 [] (parts 10 s)) (sym (append-nil (linesText eventText es)))
@@ -125,30 +129,30 @@ trace-back es f a b h =
 
 -- ── the report ──
 
-abbrev withOf : Report → Of → Report
-withOf r o = record { ofs = r .ofs ++ o ∷ []; log = r .log }
+abbrev ofJoins : Report → Of → Report
+ofJoins r o = record { ofs = r .ofs ++ o ∷ []; log = r .log }
 
-abbrev withEntry : Report → Entry → Report
-withEntry r l = record { ofs = r .ofs; log = r .log ++ l ∷ [] }
+abbrev entryJoins : Report → Entry → Report
+entryJoins r l = record { ofs = r .ofs; log = r .log ++ l ∷ [] }
 
 record OfRoom (past : Report) (os : List Of) : Type 0 where
   fits : All OfIn os
   few : length (past .ofs) + length os ≤ 64
   first : past .log ≡ []
 
-of-added : (x : Report) (v : List ℕ) → x .log ≡ [] → length (x .ofs) < 64 → addOf x v ≡ some (withOf x (ofFrom v))
+of-added : (x : Report) (v : List ℕ) → x .log ≡ [] → length (x .ofs) < 64 → addOf x v ≡ some (ofJoins x (ofFrom v))
 unfolding addOf
 of-added x v e k = rw (e, addOf) (within-yes (length (x .ofs)) 64 _ k)
 
 of-step : (n : ℕ) (past : Report) (o : Of) (os : List Of) (r : List ℕ) → OfRoom past (o ∷ os) →
-    readLines reportKinds n past (parts 10 (ofText o ++ r)) ≡ readLines reportKinds (suc n) (withOf past o) (parts 10 r)
+    readLines reportKinds n past (parts 10 (ofText o ++ r)) ≡ readLines reportKinds (suc n) (ofJoins past o) (parts 10 r)
 unfolding ofText unbroken
 of-step n past o os r h =
     line-step reportKinds n past _ (ofLine .word) (o .rid) (o .group ∷ o .count ∷ []) r refl
     (adds-first _ _ past _ (o .rid ∷ o .group ∷ o .count ∷ []) (line-back ofLine (o .rid) (o .group ∷ o .count ∷ []) (h .fits .0))
     ∙ of-added past (o .rid ∷ o .group ∷ o .count ∷ []) (h .first) (omega (arith, h .few)))
 
-of-more : (past : Report) (o : Of) (os : List Of) → OfRoom past (o ∷ os) → OfRoom (withOf past o) os
+of-more : (past : Report) (o : Of) (os : List Of) → OfRoom past (o ∷ os) → OfRoom (ofJoins past o) os
 of-more past o os h =
     record { fits = h .fits .1; few = omega (arith, h .few, length-append (past .ofs) (o ∷ [])); first = h .first }
 
@@ -156,30 +160,34 @@ record LogRoom (past : Report) (ls : List Entry) : Type 0 where
   fits : All EntryIn ls
   few : length (past .log) + length ls ≤ 1024
 
+log-added : (x : Report) (v : List ℕ) → isOperation (getD v 3 0) ≡ true → length (x .log) < 1024 → addLog x v ≡ some (entryJoins x (entryFrom v))
+unfolding addLog
+log-added x v o k = rw (o, addLog) (within-yes (length (x .log)) 1024 _ k)
+
 log-step : (n : ℕ) (past : Report) (l : Entry) (ls : List Entry) (r : List ℕ) → LogRoom past (l ∷ ls) →
-    readLines reportKinds n past (parts 10 (entryText l ++ r)) ≡ readLines reportKinds (suc n) (withEntry past l) (parts 10 r)
-unfolding entryText addLog unbroken prefix
+    readLines reportKinds n past (parts 10 (entryText l ++ r)) ≡ readLines reportKinds (suc n) (entryJoins past l) (parts 10 r)
+unfolding entryText unbroken prefix
 log-step n past l ls r h =
     let vs = l .rid ∷ l .num ∷ l .op .kind ∷ l .op .key ∷ l .op .value ∷ [] in
     line-step reportKinds n past _ (logLine .word) (l .op .object) vs r refl
-    (adds-second _ _ past _ (line-not ofLine (logLine .word ++ joined (l .op .object) vs) refl)
-    (l .op .object ∷ vs) (line-back logLine (l .op .object) vs (h .fits .0))
-    ∙ within-yes (length (past .log)) 1024 _ (omega (arith, h .few)))
+    (adds-later _ _ past _ (line-not ofLine (logLine .word ++ joined (l .op .object) vs) refl)
+    ∙ adds-first _ _ past _ (l .op .object ∷ vs) (line-back logLine (l .op .object) vs (h .fits .0 .fields))
+    ∙ log-added past (l .op .object ∷ vs) (h .fits .0 .operation) (omega (arith, h .few)))
 
-log-room : (past : Report) (l : Entry) (ls : List Entry) → LogRoom past (l ∷ ls) → LogRoom (withEntry past l) ls
+log-room : (past : Report) (l : Entry) (ls : List Entry) → LogRoom past (l ∷ ls) → LogRoom (entryJoins past l) ls
 log-room past l ls h = record { fits = h .fits .1; few = omega (arith, h .few, length-append (past .log) (l ∷ [])) }
 
-ofs-all : (past : Report) (os : List Of) → puts reportKinds ofText withOf past os ≡ record { ofs = past .ofs ++ os; log = past .log }
+ofs-all : (past : Report) (os : List Of) → puts reportKinds ofText ofJoins past os ≡ record { ofs = past .ofs ++ os; log = past .log }
 ofs-all past [] = let e = sym (append-nil (past .ofs)) in λ i. record { ofs = e i; log = past .log }
 ofs-all past (o ∷ os) =
-    ofs-all (withOf past o) os
+    ofs-all (ofJoins past o) os
     ∙ (let e = append-assoc (past .ofs) (o ∷ []) os in λ i. record { ofs = e i; log = past .log })
 
 log-all : (past : Report) (ls : List Entry) →
-    puts reportKinds entryText withEntry past ls ≡ record { ofs = past .ofs; log = past .log ++ ls }
+    puts reportKinds entryText entryJoins past ls ≡ record { ofs = past .ofs; log = past .log ++ ls }
 log-all past [] = let e = sym (append-nil (past .log)) in λ i. record { ofs = past .ofs; log = e i }
 log-all past (l ∷ ls) =
-    log-all (withEntry past l) ls
+    log-all (entryJoins past l) ls
     ∙ (let e = append-assoc (past .log) (l ∷ []) ls in λ i. record { ofs = past .ofs; log = e i })
 
 pub report-back : (r : Report) → All OfIn (r .ofs) → All EntryIn (r .log) → length (r .ofs) ≤ 64 → length (r .log) ≤ 1024 →
@@ -193,10 +201,10 @@ report-back r f g a b h =
     let x₀ : Report = record { ofs = []; log = [] } in
     let x₁ : Report = record { ofs = r .ofs; log = [] } in
     text-back reportKinds x₀ r (os ++ ls) n h
-    (lines-step reportKinds ofText withOf OfRoom of-step of-more 1 x₀ (r .ofs) ls (record { fits = f; few = omega (arith, a); first = refl })
+    (lines-step reportKinds ofText ofJoins OfRoom of-step of-more 1 x₀ (r .ofs) ls (record { fits = f; few = omega (arith, a); first = refl })
     ∙ ap (λ x. readLines reportKinds m x (parts 10 ls)) (ofs-all x₀ (r .ofs))
     ∙ ap (λ s. readLines reportKinds m x₁ (parts 10 s)) (sym (append-nil ls))
-    ∙ lines-step reportKinds entryText withEntry LogRoom log-step log-room m x₁ (r .log) [] (record { fits = g; few = omega (arith, b) })
+    ∙ lines-step reportKinds entryText entryJoins LogRoom log-step log-room m x₁ (r .log) [] (record { fits = g; few = omega (arith, b) })
     ∙ ap (λ x. readLines reportKinds n x (parts 10 [])) (log-all x₁ (r .log)))
 
 -- ── how long they are at most ──
@@ -219,7 +227,7 @@ of-bound o h = omega (arith, line-bound ofLine (ofNumbers o) h)
 
 entry-bound : (l : Entry) → EntryIn l → length (entryText l) ≤ 62
 unfolding entryText decimal digitsIn
-entry-bound l h = omega (arith, line-bound logLine (entryNumbers l) h)
+entry-bound l h = omega (arith, line-bound narrowLog (entryNumbers l) (entry-range l h))
 
 pub trace-bound : (es : List Event) → All EventIn es → length (traceText es) ≤ 77 * length es
 unfolding traceText

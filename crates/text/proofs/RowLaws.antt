@@ -1,14 +1,13 @@
 -- Laws of records in an array of numbers.
-use Prim.Native.Nat.{ℕ, zero, suc, _+_, _-_, _*_, _%_, _<_, _≤_}
+use Prim.Native.Nat.{ℕ, suc, _+_, _*_, _%_, _<_, _≤_}
 use mathlib.Core.Bool.{Bool, true, false}
 use mathlib.Core.List.{List, [], _∷_, _++_, append-assoc}
 use mathlib.Core.Path.{_≡_, refl, sym, _∙_, ap, subst}
 use native.Mathlib.Omega.{arith}
-use native.Mathlib.Numerals.{add-one}
 use native.Mathlib.Nat.{mod-eq-of-lt, mul-le-mul-right, suc-mul}
 use borrow.Author.Tests.{eqb-true, eqb-false, ltb-true, ltb-false}
 use lib.Dec.{eqb, ltb}
-use lib.ListN.{length, getD, take, drop, set, length-append, length-drop, take-append-drop}
+use lib.ListN.{length, getD, take, drop, set, length-drop, take-append-drop}
 use lib.Seq.{
   sets,
   sets-eq,
@@ -24,7 +23,9 @@ use lib.Seq.{
   getD-set-same,
   getD-set-other,
 }
-use Rattle.text.specs.Rows.{row, withRow, firsts}
+use Rattle.basics.specs.Firsts.{firsts}
+use Rattle.basics.proofs.Firsts.{firsts-more}
+use Rattle.text.specs.Rows.{row, withRow}
 
 -- number j of row i stands at i times w plus j
 pub row-at : (w : ℕ) (a : List ℕ) (i j k : ℕ) → j < w → k ≡ i * w + j → getD (row w a i) j 0 ≡ getD a k 0
@@ -70,54 +71,6 @@ sets-twelve a k u₀ u₁ u₂ u₃ u₄ u₅ u₆ u₇ u₈ u₉ v w =
     let t : k + 10 ≡ suc (suc (suc (suc (suc (suc (suc (suc (suc (suc k))))))))) = omega arith in
     let u : k + 11 ≡ suc (suc (suc (suc (suc (suc (suc (suc (suc (suc (suc k)))))))))) = omega arith in
     rw (sets-six a k u₀ u₁ u₂ u₃ u₄ u₅, p, q, r, s, t, u) refl
-
-module _ {A : Type 0} where
-  pub firsts-length : (f : ℕ → A) (n : ℕ) → length (firsts f n) ≡ n
-  unfolding firsts
-  firsts-length f zero = refl
-  firsts-length f (suc n) = length-append (firsts f n) (f n ∷ []) ∙ omega (arith, firsts-length f n)
-
-  pub firsts-same : (f g : ℕ → A) (n : ℕ) → ((i : ℕ) → i < n → f i ≡ g i) → firsts f n ≡ firsts g n
-  unfolding firsts
-  firsts-same f g zero h = refl
-  firsts-same f g (suc n) h =
-      let e = firsts-same f g n (λ (i : ℕ). λ (k : i < n). h i (omega (arith, k))) in
-      let d = h n (omega arith) in
-      λ i. e i ++ d i ∷ []
-
-  -- the first of the first, and what stands at a place of them
-  pub firsts-front : (f : ℕ → A) (n : ℕ) → firsts f (suc n) ≡ f 0 ∷ firsts (λ i. f (suc i)) n
-  unfolding firsts
-  firsts-front f zero = refl
-  firsts-front f (suc n) = ap (λ t. t ++ f (suc n) ∷ []) (firsts-front f n)
-
-  pub firsts-at : (f : ℕ → A) (n i : ℕ) (d : A) → i < n → getD (firsts f n) i d ≡ f i
-  firsts-at f zero i d h = absurd (omega arith)
-  firsts-at f (suc n) zero d h = rw (firsts-front f n)
-  firsts-at f (suc n) (suc i) d h = rw (firsts-front f n) (firsts-at (λ i. f (suc i)) n i d (omega arith))
-
-  -- those from k on
-  pub firsts-split : (f : ℕ → A) (k m : ℕ) → k < m →
-      firsts (λ i. f (k + i)) (m - k) ≡ f k ∷ firsts (λ i. f (k + 1 + i)) (m - (k + 1))
-  firsts-split f k m h =
-      let z : m - k ≡ suc (m - (k + 1)) = omega arith in
-      let o : k + 0 ≡ k = omega arith in
-      ap (firsts (λ i. f (k + i))) z ∙ firsts-front (λ i. f (k + i)) (m - (k + 1))
-      ∙ (λ i. f (o i)
-      ∷ firsts-same (λ i. f (k + suc i)) (λ i. f (k + 1 + i)) (m - (k + 1))
-      (λ j _. let e : k + suc j ≡ k + 1 + j = omega arith in ap f e) i)
-
-  -- a list by its places
-  pub firsts-getD : (xs : List A) (d : A) → firsts (λ k. getD xs k d) (length xs) ≡ xs
-  unfolding firsts
-  firsts-getD [] d = refl
-  firsts-getD (x ∷ xs) d = firsts-front (λ k. getD (x ∷ xs) k d) (length xs) ∙ ap (λ t. x ∷ t) (firsts-getD xs d)
-
-  -- one record more
-  pub firsts-more : (f g : ℕ → A) (n : ℕ) (x : A) → ((i : ℕ) → i < n → f i ≡ g i) → f n ≡ x →
-      firsts f (n + 1) ≡ firsts g n ++ x ∷ []
-  unfolding firsts
-  firsts-more f g n x h e = rw add-one (λ i. firsts-same f g n h i ++ e i ∷ [])
 
 -- an array is filled: x is put behind j entries that are as they should be
 pub set-next : {A : Type 0} (P : ℕ → A → Type 0) (d : A) (xs : List A) (j : ℕ) (x : A) → j < length xs →

@@ -1,5 +1,5 @@
 -- The reader of the schedule, from line to line.
-use Prim.Native.Nat.{ℕ, _+_, _*_, _%_, _<_, _≤_}
+use Prim.Native.Nat.{ℕ, zero, suc, _+_, _*_, _%_, _<_, _≤_}
 use mathlib.Core.List.{List, [], _∷_, _++_}
 use mathlib.Core.Bool.{Bool, true, false, cond}
 use mathlib.Core.Path.{_≡_, refl, sym, _∙_, ap}
@@ -8,36 +8,26 @@ use lib.ListN.{length, getD, set, length-set, List·getD-eq-default}
 use lib.Seq.{getD-set-same, getD-set-other}
 use lib.Dec.{ltb}
 use borrow.Author.Tests.{lt-ltb, le-ltb, ltb-true, ltb-false}
+use Rattle.basics.specs.Count.{count}
+use Rattle.basics.specs.Firsts.{firsts}
+use Rattle.basics.proofs.Lists.{count-yes, count-no}
+use Rattle.basics.proofs.Firsts.{firsts-more}
 use Rattle.lines.specs.Place.{cells}
 use Rattle.lines.proofs.Prefix.{unbroken}
-use Rattle.lines.proofs.LineTrip.{line-longer, line-range}
-use Rattle.text.specs.Text.{unreadable, count, readText}
-use Rattle.text.specs.Formats.{arriveLine, turnLine}
+use Rattle.lines.proofs.LineTrip.{line-range}
+use Rattle.text.specs.Text.{unreadable, readText}
+use Rattle.text.specs.Formats.{turnLine}
 use Rattle.text.specs.Schedule.{arriveFrom, turnFrom, isArrive, addArrive, addTurn, scheduleKinds, readSchedule}
-use Rattle.text.specs.Rows.{row, withRow, firsts}
-use Rattle.text.specs.Held.{readIn, moveFrom, moveAt, ScheduleIs}
-use Rattle.text.specs.Steps.{eitherAt, toldIn}
-use Rattle.text.specs.declared.kinds.Line.{Line}
-use Rattle.text.specs.declared.kinds.Line.the-variants.{First, Second, Neither}
+use Rattle.text.specs.Rows.{row, withRow}
+use Rattle.text.specs.Held.{readIn, moveFrom, moveAt, withMove, withArrival, ScheduleIs}
+use Rattle.text.specs.Steps.{kind}
 use Rattle.text.specs.declared.kinds.Lines.the-variants.{Readable, Unreadable}
+use Rattle.text.specs.declared.schedule.Move.{Move}
 use Rattle.text.specs.declared.schedule.Move.the-variants.{Arrive, Turn}
-use Rattle.text.proofs.Reading.{
-  count-yes,
-  count-no,
-  within-yes,
-  within-no,
-  Reading,
-  Adds,
-  reading-long,
-  reading-start,
-  reading-done,
-  reading-none,
-  reading-cut,
-  reading-refused,
-  reading-taken,
-}
-use Rattle.text.proofs.Alternatives.{first-line, is-first, second-line, is-second, is-neither}
-use Rattle.text.proofs.RowLaws.{row-at, row-room, row-put, row-before, firsts-more}
+use Rattle.text.proofs.Reading.{within-yes, within-no, Fits, Reading, reading-long, reading-start, reading-done, reading-refused, reading-taken}
+use Rattle.text.proofs.LineKinds.{apart, fits-longer}
+use Rattle.text.proofs.Ranges.{range-at}
+use Rattle.text.proofs.RowLaws.{row-at, row-room, row-put, row-before}
 
 -- ── what `move_at` reads ──
 
@@ -128,6 +118,16 @@ module _ (moves arrivals : List ℕ) (m n : ℕ) (codes : Codes moves m n) (l : 
 
 -- ── n lines are in the arrays, m of them arrivals, and the text goes on at a place ──
 
+pub schedule-apart : apart scheduleKinds ≡ true
+unfolding unbroken
+schedule-apart = refl
+
+-- a word has five bytes at least
+word-bytes : (k : ℕ) → k < 2 → 5 ≤ length (kind scheduleKinds k .format .word)
+word-bytes zero h = omega arith
+word-bytes (suc zero) h = omega arith
+word-bytes (suc (suc k)) h = absurd (omega arith)
+
 pub record Held (s moves arrivals : List ℕ) (m n at : ℕ) : Type 0 where
   pub reading : Reading scheduleKinds [] s (firsts (moveAt moves arrivals) n) (n + 1) at
   pub roomMoves : length moves ≡ 9362
@@ -135,7 +135,7 @@ pub record Held (s moves arrivals : List ℕ) (m n at : ℕ) : Type 0 where
   pub comes : count isArrive (firsts (moveAt moves arrivals) n) ≡ m
   pub fewArrivals : m ≤ 64
   pub codes : Codes moves m n
-  -- a line takes seven bytes at least
+  -- a line takes seven bytes at least: its word, a digit and a line feed
   pub bytes : 7 * n ≤ at
 
 refused : (s moves arrivals : List ℕ) (line : ℕ) → length moves ≡ 9362 → length arrivals ≡ 256 →
@@ -149,7 +149,7 @@ held-long s moves arrivals l k h = refused s moves arrivals 0 l k (reading-long 
 
 pub held-start : (s moves arrivals : List ℕ) → length moves ≡ 9362 → length arrivals ≡ 256 → length s ≤ 65535 →
     Held s moves arrivals 0 0 0
-unfolding firsts count
+unfolding firsts
 held-start s moves arrivals l k h =
     record {
       reading = reading-start scheduleKinds [] s h;
@@ -162,101 +162,74 @@ held-start s moves arrivals l k h =
     }
 
 module _ {s moves arrivals : List ℕ} {m n at : ℕ} (r : Held s moves arrivals m n at) where
+  abbrev lines : List Move
+  lines = firsts (moveAt moves arrivals) n
+
   pub held-done : length s ≤ at → ScheduleIs s (Readable n) moves arrivals
   unfolding readIn readSchedule
   held-done h =
       record {
-        read = reading-done scheduleKinds [] s (r .reading) h;
+        read = reading-done (r .reading) h;
         fewMoves = omega (arith, r .bytes, r .reading .inside, r .reading .short);
         roomMoves = r .roomMoves;
         roomArrivals = r .roomArrivals;
       }
 
-  refuse : unreadable (n + 1) ≡ readText scheduleKinds [] s → ScheduleIs s (Unreadable (n + 1)) moves arrivals
-  refuse h = refused s moves arrivals (n + 1) (r .roomMoves) (r .roomArrivals) h
+  pub held-refused : unreadable (n + 1) ≡ readText scheduleKinds [] s → ScheduleIs s (Unreadable (n + 1)) moves arrivals
+  held-refused h = refused s moves arrivals (n + 1) (r .roomMoves) (r .roomArrivals) h
 
-  module _ (h : at < length s) (v : List ℕ) (l : Line) (t : toldIn l 4 1 v ≡ eitherAt arriveLine turnLine s at) where
-    pub held-neither : l ≡ Neither → ScheduleIs s (Unreadable (n + 1)) moves arrivals
-    unfolding unbroken
-    held-neither i = refuse (reading-none scheduleKinds [] s (r .reading) h (is-neither _ _ [] s at 4 1 v refl refl l t i _))
+  fits-bytes : {k e : ℕ} {vs : List ℕ} → Fits scheduleKinds s at k e vs → at + 6 ≤ e
+  fits-bytes {k} f = omega (arith, word-bytes k (f .among), fits-longer f)
 
-    module _ (e : ℕ) (i : l ≡ First e) where
-      pub arrive-adds : Adds scheduleKinds [] s at e (λ ms. addArrive ms (cells 4 v))
-      unfolding unbroken
-      arrive-adds = is-first _ _ [] s at 4 1 v refl refl l t e i
+  line-room : {k e : ℕ} {vs : List ℕ} → Fits scheduleKinds s at k e vs → e < length s → n < 9362
+  line-room f g = omega (arith, g, fits-bytes f, r .bytes, r .reading .short)
 
-      pub arrive-cut : length s ≤ e → ScheduleIs s (Unreadable (n + 1)) moves arrivals
-      arrive-cut g = refuse (reading-cut scheduleKinds [] s (r .reading) h e _ arrive-adds g)
-
+  module _ (h : at < length s) {e : ℕ} {vs : List ℕ} (g : e < length s) where
+    module _ (f : Fits scheduleKinds s at 0 e vs) where
       pub arrive-full : 64 ≤ m → ScheduleIs s (Unreadable (n + 1)) moves arrivals
       unfolding addArrive
-      arrive-full g =
-          refuse (reading-refused scheduleKinds [] s (r .reading) h e _ arrive-adds
-          (within-no _ 64 _ (omega (arith, g, r .comes))))
+      arrive-full k = held-refused (reading-refused (r .reading) h f (within-no _ 64 _ (omega (arith, k, r .comes))))
 
-      pub arrive-bytes : at + 8 ≤ e
-      unfolding unbroken
-      arrive-bytes =
-          let g = first-line arriveLine turnLine s at 4 1 v refl refl l t e i in
-          omega (arith, g .0, line-longer arriveLine _ _ (g .1))
-
-      pub arrive-room : e < length s → n < 9362
-      arrive-room g = omega (arith, g, arrive-bytes, r .bytes, r .reading .short)
-
-      pub arrive-on : e < length s → m < 64 → (moves′ arrivals′ : List ℕ) → moves′ ≡ set moves n (65536 + m) →
-          arrivals′ ≡ withRow 4 arrivals m (cells 4 v) → Held s moves′ arrivals′ (m + 1) (n + 1) (e + 1)
-      unfolding addArrive
-      arrive-on g k moves′ arrivals′ d f =
-          let ms = firsts (moveAt moves arrivals) n in
-          let u = arrive-room g in
-          let w : firsts (moveAt moves′ arrivals′) (n + 1) ≡ ms ++ arriveFrom (cells 4 v) ∷ [] =
-          rw (d, f) (arrive-more moves arrivals m n (r .codes) (r .roomMoves) u (cells 4 v) refl (r .roomArrivals) k) in
-          let x = reading-taken scheduleKinds [] s (r .reading) h e _ arrive-adds g _
-          (within-yes (count isArrive ms) 64 _ (omega (arith, k, r .comes))) in
+      pub arrive-on : m < 64 → (x : Move) → x ≡ arriveFrom vs → (moves′ arrivals′ : List ℕ) → moves′ ≡ withMove moves n m x →
+          arrivals′ ≡ withArrival arrivals m x → Held s moves′ arrivals′ (m + 1) (n + 1) (e + 1)
+      unfolding addArrive withMove withArrival
+      arrive-on k x i moves′ arrivals′ d b =
+          let u = line-room f g in
+          let z : m % 64 ≡ m = omega (arith, k) in
+          let d′ : moves′ ≡ set moves n (65536 + m) = d ∙ ap (withMove moves n m) i ∙ ap (λ j. set moves n (65536 + j)) z in
+          let b′ : arrivals′ ≡ withRow 4 arrivals m (cells 4 vs) = b ∙ ap (withArrival arrivals m) i ∙ ap (λ j. withRow 4 arrivals j (cells 4 vs)) z in
+          let w : firsts (moveAt moves′ arrivals′) (n + 1) ≡ lines ++ arriveFrom vs ∷ [] =
+          rw (d′, b′) (arrive-more moves arrivals m n (r .codes) (r .roomMoves) u (cells 4 vs) refl (r .roomArrivals) k) in
+          let y = within-yes (count isArrive lines) 64 _ (omega (arith, k, r .comes)) in
           record {
-            reading = rw w x;
-            roomMoves = ap length d ∙ length-set moves n (65536 + m) ∙ r .roomMoves;
-            roomArrivals = ap length f ∙ row-room 4 arrivals m (cells 4 v) refl (omega (arith, r .roomArrivals, k)) ∙ r .roomArrivals;
-            comes = ap (count isArrive) w ∙ count-yes isArrive ms _ refl ∙ omega (arith, r .comes);
+            reading = rw w (reading-taken (r .reading) h f g _ y);
+            roomMoves = ap length d′ ∙ length-set moves n (65536 + m) ∙ r .roomMoves;
+            roomArrivals = ap length b′ ∙ row-room 4 arrivals m (cells 4 vs) refl (omega (arith, r .roomArrivals, k)) ∙ r .roomArrivals;
+            comes = ap (count isArrive) w ∙ count-yes isArrive lines _ refl ∙ omega (arith, r .comes);
             fewArrivals = omega (arith, k);
-            codes = rw d (codes-more moves arrivals m n (r .codes) (r .roomMoves) u (65536 + m) (m + 1) (omega arith) (omega arith));
-            bytes = omega (arith, arrive-bytes, r .bytes);
+            codes = rw d′ (codes-more moves arrivals m n (r .codes) (r .roomMoves) u (65536 + m) (m + 1) (omega arith) (omega arith));
+            bytes = omega (arith, fits-bytes f, r .bytes);
           }
 
-    module _ (e : ℕ) (i : l ≡ Second e) where
-      pub turn-adds : Adds scheduleKinds [] s at e (λ ms. addTurn ms (cells 1 v))
-      unfolding unbroken
-      turn-adds = is-second _ _ [] s at 4 1 v refl refl l t e i
-
-      pub turn-cut : length s ≤ e → ScheduleIs s (Unreadable (n + 1)) moves arrivals
-      turn-cut g = refuse (reading-cut scheduleKinds [] s (r .reading) h e _ turn-adds g)
-
-      turn-line : (at + 6 ≤ e) × (getD v 0 0 ≤ 65535)
-      unfolding unbroken
-      turn-line =
-          let g = second-line arriveLine turnLine s at 4 1 v refl refl l t e i in
-          (omega (arith, g .0, line-longer turnLine _ _ (g .1)), line-range turnLine _ _ (g .1) .0 .below)
-
-      pub turn-room : e < length s → n < 9362
-      turn-room g = omega (arith, g, turn-line .0, r .bytes, r .reading .short)
-
-      pub turn-on : e < length s → (moves′ : List ℕ) → moves′ ≡ set moves n (getD v 0 0 % 65536) →
-          Held s moves′ arrivals m (n + 1) (e + 1)
-      unfolding addTurn
-      turn-on g moves′ d =
-          let ms = firsts (moveAt moves arrivals) n in
-          let u = turn-room g in
-          let z : getD v 0 0 % 65536 ≡ getD v 0 0 = omega (arith, turn-line .1) in
-          let d′ : moves′ ≡ set moves n (getD v 0 0) = d ∙ ap (set moves n) z in
-          let w : firsts (moveAt moves′ arrivals) (n + 1) ≡ ms ++ turnFrom (cells 1 v) ∷ [] =
-          rw d′ (turn-more moves arrivals m n (r .codes) (r .roomMoves) u (getD v 0 0) (omega (arith, turn-line .1))) in
-          let x = reading-taken scheduleKinds [] s (r .reading) h e _ turn-adds g _ refl in
+    module _ (f : Fits scheduleKinds s at 1 e vs) where
+      pub turn-on : (x : Move) → x ≡ turnFrom vs → (moves′ arrivals′ : List ℕ) → moves′ ≡ withMove moves n m x →
+          arrivals′ ≡ withArrival arrivals m x → Held s moves′ arrivals′ m (n + 1) (e + 1)
+      unfolding addTurn withMove withArrival
+      turn-on x i moves′ arrivals′ d b =
+          let u = line-room f g in
+          let rid = getD vs 0 0 in
+          let o : rid ≤ 65535 = range-at (turnLine .ranges) vs 0 (line-range turnLine _ vs (f .numbers)) (omega arith) in
+          let z : rid % 65536 ≡ rid = omega (arith, o) in
+          let d′ : moves′ ≡ set moves n rid = d ∙ ap (withMove moves n m) i ∙ ap (set moves n) z in
+          let b′ : arrivals′ ≡ arrivals = b ∙ ap (withArrival arrivals m) i in
+          let w : firsts (moveAt moves′ arrivals′) (n + 1) ≡ lines ++ turnFrom vs ∷ [] =
+          rw (d′, b′) (turn-more moves arrivals m n (r .codes) (r .roomMoves) u rid (omega (arith, o))) in
           record {
-            reading = rw w x;
-            roomMoves = ap length d′ ∙ length-set moves n (getD v 0 0) ∙ r .roomMoves;
-            roomArrivals = r .roomArrivals;
-            comes = ap (count isArrive) w ∙ count-no isArrive ms _ refl ∙ r .comes;
+            reading = rw w (reading-taken (r .reading) h f g _ refl);
+            roomMoves = ap length d′ ∙ length-set moves n rid ∙ r .roomMoves;
+            roomArrivals = ap length b′ ∙ r .roomArrivals;
+            comes = ap (count isArrive) w ∙ count-no isArrive lines _ refl ∙ r .comes;
             fewArrivals = r .fewArrivals;
-            codes = rw d′ (codes-more moves arrivals m n (r .codes) (r .roomMoves) u (getD v 0 0) m (omega arith) (omega (arith, turn-line .1)));
-            bytes = omega (arith, turn-line .0, r .bytes);
+            codes = rw d′ (codes-more moves arrivals m n (r .codes) (r .roomMoves) u rid m (omega arith) (omega (arith, o)));
+            bytes = omega (arith, fits-bytes f, r .bytes);
           }

@@ -1,5 +1,5 @@
 -- The formats of the four texts: the word of each line, the ranges of its fields, and how many of it there may be.
-use Prim.Native.Nat.{ℕ}
+use Prim.Native.Nat.{ℕ, _-_}
 use mathlib.Core.List.{[], _∷_}
 use Rattle.lines.specs.Bytes.{bytes}
 use Rattle.lines.specs.Line.{Range, Format, any, upTo}
@@ -8,9 +8,12 @@ use Rattle.lines.specs.Line.{Range, Format, any, upTo}
 abbrev pub mostBytes : ℕ
 mostBytes = 65535
 
--- a request id
+-- how many request ids there are
+abbrev pub mostRids : ℕ
+mostRids = 65536
+
 abbrev pub rid : Range
-rid = upTo 65535
+rid = upTo (mostRids - 1)
 
 -- program=n
 abbrev pub programLine : Format
@@ -43,21 +46,29 @@ responseLine = record { word = bytes "response="; ranges = rid ∷ upTo 1 ∷ an
 abbrev pub mostResponses : ℕ
 mostResponses = 64
 
+-- the largest group of an `of` line
+abbrev pub mostGroup : ℕ
+mostGroup = 63
+
+-- the most operations of a request, and so the largest number of one
+abbrev pub mostOperations : ℕ
+mostOperations = 256
+
 -- of=rid,group,count
 abbrev pub ofLine : Format
-ofLine = record { word = bytes "of="; ranges = rid ∷ upTo 63 ∷ upTo 256 ∷ [] }
+ofLine = record { word = bytes "of="; ranges = rid ∷ upTo mostGroup ∷ upTo mostOperations ∷ [] }
 
 -- the most `of` lines of a report
 abbrev pub mostOfs : ℕ
 mostOfs = 64
 
--- log=object,rid,num,kind,key,value
+-- how many objects there are
+abbrev pub mostObjects : ℕ
+mostObjects = 16
+
+-- log=object,rid,num,kind,key,value, where the kind is the code of an operation
 abbrev pub logLine : Format
-logLine =
-    record {
-      word = bytes "log=";
-      ranges = upTo 15 ∷ rid ∷ upTo 256 ∷ record { low = 6; high = 9 } ∷ any ∷ any ∷ [];
-    }
+logLine = record { word = bytes "log="; ranges = upTo (mostObjects - 1) ∷ rid ∷ upTo mostOperations ∷ any ∷ any ∷ any ∷ [] }
 
 -- the most `log` lines of a report
 abbrev pub mostEntries : ℕ

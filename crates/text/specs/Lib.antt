@@ -1,3 +1,4 @@
+pub mod Codes
 pub mod Formats
 pub mod Text
 pub mod Programs
@@ -6,7 +7,6 @@ pub mod Report
 pub mod Schedule
 pub mod Written
 pub mod Rows
-pub mod Scans
 pub mod Held
 pub mod Slots
 pub mod Steps

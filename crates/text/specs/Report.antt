@@ -1,9 +1,11 @@
 -- The report: at most 64 `of` lines, then at most 1,024 `log` lines.
 use Prim.Native.Nat.{ℕ}
 use mathlib.Core.List.{List, [], _∷_, _++_}
+use mathlib.Core.Bool.{true, false}
 use mathlib.Core.Option.{Option, none}
 use lib.ListN.{length, getD}
 use Rattle.text.specs.Text.{Read, Kind, within, readText}
+use Rattle.text.specs.Codes.{isOperation}
 use Rattle.text.specs.Formats.{ofLine, logLine, mostOfs, mostEntries}
 use Rattle.text.specs.declared.report.Of.{Of}
 use Rattle.text.specs.declared.report.Entry.{Entry}
@@ -35,8 +37,13 @@ addOf r v =
       | l ∷ ls ↦ none
     ]
 
+-- the kind is the code of an operation
 unfoldable pub addLog : Report → List ℕ → Option Report
-addLog r v = within (length (r .log)) mostEntries (record { ofs = r .ofs; log = r .log ++ entryFrom v ∷ [] })
+addLog r v =
+    elim (isOperation (getD v 3 0)) [
+      | true ↦ within (length (r .log)) mostEntries (record { ofs = r .ofs; log = r .log ++ entryFrom v ∷ [] })
+      | false ↦ none
+    ]
 
 abbrev pub reportKinds : List (Kind Report)
 reportKinds = record { format = ofLine; add = addOf } ∷ record { format = logLine; add = addLog } ∷ []

@@ -1,6 +1,6 @@
 -- Records in an array of numbers: row i of width w stands at i times w.
-use Prim.Native.Nat.{ℕ, zero, suc, _*_}
-use mathlib.Core.List.{List, [], _∷_, _++_}
+use Prim.Native.Nat.{ℕ, _*_}
+use mathlib.Core.List.{List}
 use lib.ListN.{take, drop}
 use lib.Seq.{sets}
 
@@ -11,8 +11,3 @@ row w a i = take w (drop (i * w) a)
 -- the array with row i replaced
 unfoldable pub withRow : ℕ → List ℕ → ℕ → List ℕ → List ℕ
 withRow w a i vs = sets a (i * w) vs
-
--- the first n of what f gives
-unfoldable pub firsts : {A : Type 0} → (ℕ → A) → ℕ → List A
-firsts f zero = []
-firsts f (suc n) = firsts f n ++ f n ∷ []

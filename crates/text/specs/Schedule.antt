@@ -4,7 +4,8 @@ use mathlib.Core.List.{List, [], _∷_, _++_}
 use mathlib.Core.Option.{Option, some}
 use mathlib.Core.Bool.{Bool, true, false}
 use lib.ListN.{getD}
-use Rattle.text.specs.Text.{Read, Kind, within, count, readText}
+use Rattle.basics.specs.Count.{count}
+use Rattle.text.specs.Text.{Read, Kind, within, readText}
 use Rattle.text.specs.Formats.{arriveLine, turnLine, mostArrivals}
 use Rattle.text.specs.declared.schedule.Move.{Move}
 use Rattle.text.specs.declared.schedule.Move.the-variants.{Arrive, Turn}

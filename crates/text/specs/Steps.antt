@@ -1,40 +1,48 @@
 -- What the private functions of this crate promise. The public contracts do not need it.
-use Prim.Native.Nat.{ℕ, min}
-use mathlib.Core.List.{List}
-use Rattle.lines.specs.Line.{Format}
+use Prim.Native.Nat.{ℕ, suc, min}
+use mathlib.Core.List.{List, [], _∷_}
+use mathlib.Core.Option.{none}
+use lib.ListN.{length, getD}
 use Rattle.lines.specs.Place.{Found, found, nothing, lineAt, cells}
-use Rattle.lines.specs.declared.lines.Place.{Place}
-use Rattle.lines.specs.declared.lines.Place.the-variants.{At, Nowhere}
+use Rattle.text.specs.Text.{Kind}
 use Rattle.text.specs.declared.kinds.Line.{Line}
-use Rattle.text.specs.declared.kinds.Line.the-variants.{First, Second, Neither}
+use Rattle.text.specs.declared.kinds.Line.the-variants.{Known, Unknown}
 
--- a line of one of two formats: which, its numbers and where it ends
+-- the kind of line that stands at a place, by its place in the list of kinds, its numbers and where it ends; or none of the list
 pub data Told : Type 0 where
-  first : List ℕ → ℕ → Told
-  second : List ℕ → ℕ → Told
-  neither : Told
+  told : ℕ → List ℕ → ℕ → Told
+  untold : Told
 
-abbrev pub secondOf : Found → Told
-secondOf (found vs e) = second vs e
-secondOf nothing = neither
+-- the same behind one kind more
+abbrev pub behind : Told → Told
+behind (told k vs e) = told (suc k) vs e
+behind untold = untold
 
-abbrev pub firstOf : Found → Found → Told
-firstOf (found vs e) g = first vs e
-firstOf nothing g = secondOf g
+abbrev pub orElse : Found → Told → Told
+orElse (found vs e) t = told 0 vs e
+orElse nothing t = behind t
 
-unfoldable pub eitherAt : Format → Format → List ℕ → ℕ → Told
-eitherAt f g s at = firstOf (lineAt f s at) (lineAt g s at)
+module _ {S : Type 0} where
+  -- the first kind that the line at a place fits
+  unfoldable pub kindAt : List (Kind S) → List ℕ → ℕ → Told
+  kindAt [] s at = untold
+  kindAt (k ∷ ks) s at = orElse (lineAt (k .format) s at) (kindAt ks s at)
 
-abbrev pub firstLine : Place → Line
-firstLine (At e) = First e
-firstLine Nowhere = Neither
+  abbrev pub noKind : Kind S
+  noKind = record { format = record { word = []; ranges = [] }; add = λ x vs. none }
 
-abbrev pub secondLine : Place → Line
-secondLine (At e) = Second e
-secondLine Nowhere = Neither
+  -- kind k of a list, and how many numbers its line has
+  abbrev pub kind : List (Kind S) → ℕ → Kind S
+  kind ks k = getD ks k noKind
 
--- what an answer says, where its numbers are the first m or n of v
-unfoldable pub toldIn : Line → ℕ → ℕ → List ℕ → Told
-toldIn (First e) m n v = first (cells (min m 6) v) e
-toldIn (Second e) m n v = second (cells (min n 6) v) e
-toldIn Neither m n v = neither
+  abbrev pub fields : List (Kind S) → ℕ → ℕ
+  fields ks k = length (kind ks k .format .ranges)
+
+  -- the numbers of a line of kind k, which are the first of v
+  abbrev pub numbersIn : List (Kind S) → ℕ → List ℕ → List ℕ
+  numbersIn ks k v = cells (min (fields ks k) 6) v
+
+  -- what an answer says, where the line's numbers are in v
+  unfoldable pub toldIn : List (Kind S) → Line → List ℕ → Told
+  toldIn ks (Known k e) v = told k (numbersIn ks k v) e
+  toldIn ks Unknown v = untold

@@ -2,7 +2,7 @@
 use Prim.Native.Nat.{ℕ, suc}
 use mathlib.Core.List.{List, [], _∷_}
 use mathlib.Core.Option.{Option, some, none}
-use mathlib.Core.Bool.{Bool, true, false}
+use mathlib.Core.Bool.{true, false}
 use lib.ListN.{length}
 use lib.Dec.{ltb}
 use Rattle.lines.specs.Parts.{parts}
@@ -22,11 +22,6 @@ pub record Kind (S : Type 0) : Type 0 where
 -- one more, where fewer than the limit stand
 unfoldable pub within : {A : Type 0} → ℕ → ℕ → A → Option A
 within n limit x = elim (ltb n limit) [ true ↦ some x | false ↦ none ]
-
--- how many pass a test
-unfoldable pub count : {A : Type 0} → (A → Bool) → List A → ℕ
-count f [] = 0
-count f (x ∷ xs) = elim (f x) [ true ↦ suc (count f xs) | false ↦ count f xs ]
 
 module _ {S : Type 0} where
   -- the line p, of the first kind that it fits, joins what was read

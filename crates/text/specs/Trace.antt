@@ -4,7 +4,8 @@ use mathlib.Core.List.{List, [], _∷_, _++_}
 use mathlib.Core.Option.{Option}
 use mathlib.Core.Bool.{Bool, true, false, not}
 use lib.ListN.{getD}
-use Rattle.text.specs.Text.{Read, Kind, within, count, readText}
+use Rattle.basics.specs.Count.{count}
+use Rattle.text.specs.Text.{Read, Kind, within, readText}
 use Rattle.text.specs.Formats.{requestLine, responseLine, mostRequests, mostResponses}
 use Rattle.text.specs.declared.trace.Event.{Event}
 use Rattle.text.specs.declared.trace.Event.the-variants.{Request, Response}

@@ -1,19 +1,17 @@
 -- A trace and a report as bytes: the numbers of each line, their ranges, and the lines one behind the other.
 use Prim.Native.Nat.{ℕ}
+use mathlib.Core.Bool.{true}
 use mathlib.Core.List.{List, [], _∷_, _++_}
+use mathlib.Core.Path.{_≡_}
 use Rattle.lines.specs.Line.{Format, InRanges}
 use Rattle.lines.specs.LineText.{lineText}
+use Rattle.text.specs.Codes.{isOperation}
 use Rattle.text.specs.Formats.{requestLine, responseLine, ofLine, logLine}
 use Rattle.text.specs.Report.{Report}
 use Rattle.text.specs.declared.report.Entry.{Entry}
 use Rattle.text.specs.declared.report.Of.{Of}
 use Rattle.text.specs.declared.trace.Event.{Event}
 use Rattle.text.specs.declared.trace.Event.the-variants.{Request, Response}
-
--- all pass
-abbrev pub All : {A : Type 0} → (A → Type 0) → List A → Type 0
-All P [] = Unit {0}
-All P (x ∷ xs) = P x × All P xs
 
 -- lines as bytes, one behind the other
 unfoldable pub linesText : {A : Type 0} → (A → List ℕ) → List A → List ℕ
@@ -47,12 +45,13 @@ ofNumbers o = o .rid ∷ o .group ∷ o .count ∷ []
 abbrev pub entryNumbers : Entry → List ℕ
 entryNumbers l = l .op .object ∷ l .rid ∷ l .num ∷ l .op .kind ∷ l .op .key ∷ l .op .value ∷ []
 
--- each field in its range
+-- each field in its range, and the kind one of an operation
 abbrev pub OfIn : Of → Type 0
 OfIn o = InRanges (ofLine .ranges) (ofNumbers o)
 
-abbrev pub EntryIn : Entry → Type 0
-EntryIn l = InRanges (logLine .ranges) (entryNumbers l)
+pub record EntryIn (l : Entry) : Type 0 where
+  pub fields : InRanges (logLine .ranges) (entryNumbers l)
+  pub operation : isOperation (l .op .kind) ≡ true
 
 -- the report as bytes
 unfoldable pub ofText : Of → List ℕ

@@ -2,14 +2,20 @@
 ghost use mathlib.Core.Path.{_≡_};
 ghost use lib.ListN.{getD, replicate};
 ghost use Rattle.lines.specs.Place.{cells};
-ghost use Rattle.text.specs.Formats.{programLine, doLine};
-ghost use Rattle.text.specs.Programs.{noInstr, instrFrom};
+ghost use Rattle.text.specs.Formats.{mostInstructions};
+ghost use Rattle.text.specs.Programs.{noInstr, instrFrom, programKinds};
 ghost use Rattle.text.specs.Held.{ProgramsIs, unreadablePrograms};
-ghost use Rattle.text.specs.Steps.{eitherAt, toldIn};
+ghost use Rattle.text.specs.Steps.{kindAt, toldIn};
 use crate::kinds::Line;
-use crate::kinds::first;
+use crate::limits::INSTRUCTIONS;
+use crate::limits::MOST_NUMBER;
+use crate::limits::PROGRAMS;
+use crate::limits::TEXT_BYTES;
 use lines::Place;
 use lines::line_at;
+
+// The last place of the table.
+const LAST_PROGRAM: usize = PROGRAMS - 1;
 
 // do=code,a,b,c
 pub struct Instr {
@@ -23,7 +29,7 @@ pub struct Instr {
 pub struct Program {
     pub number: u64,
     pub n: usize,
-    pub code: [Instr; 64],
+    pub code: [Instr; INSTRUCTIONS],
 }
 
 // What was read: the first n of table; or the unreadable line.
@@ -31,23 +37,24 @@ pub struct Programs {
     pub ok: bool,
     pub line: u64,
     pub n: usize,
-    pub table: [Program; 16],
+    pub table: [Program; PROGRAMS],
 }
 
-// The line from at on: a `program` or a `do` line. Most are of the second kind, which is tried first.
+// The line from at on: a `program` or a `do` line. Most are `do` lines, which are tried first.
 fn program_line(s: &[u8], at: usize, v: &mut [u64; 6]) -> Line
-    ensures { λ r. ⌜ toldIn r 1 4 (now (v .exit)) ≡ eitherAt programLine doLine (now (s .entry)) at ⌝ }
+    ensures { λ r. ⌜ toldIn programKinds r (now (v .exit)) ≡ kindAt programKinds (now (s .entry)) at ⌝ }
 {
-    let max: u64 = 18446744073709551615;
+    let max: u64 = MOST_NUMBER;
     let low = [0u64; 6];
     let instr = [max, max, max, max, 0, 0];
-    match line_at(s, at, b"do=", 4, &low, &instr, v) {
-        Place::At(e) => Line::Second(e),
-        Place::Nowhere => {
-            let program = [max, 0, 0, 0, 0, 0];
-            first(line_at(s, at, b"program=", 1, &low, &program, v))
-        }
+    if let Place::At(e) = line_at(s, at, b"do=", 4, &low, &instr, v) {
+        return Line::Known(1, e);
     }
+    let program = [max, 0, 0, 0, 0, 0];
+    if let Place::At(e) = line_at(s, at, b"program=", 1, &low, &program, v) {
+        return Line::Known(0, e);
+    }
+    Line::Unknown
 }
 
 fn number_from(v: &[u64; 6]) -> u64
@@ -67,15 +74,15 @@ fn instr_from(v: &[u64; 6]) -> Instr
     }
 }
 
-fn no_code() -> [Instr; 64]
-    ensures { λ r. ⌜ r ≡ replicate 64 noInstr ⌝ }
+fn no_code() -> [Instr; INSTRUCTIONS]
+    ensures { λ r. ⌜ r ≡ replicate mostInstructions noInstr ⌝ }
 {
     [Instr {
         code: 0,
         a: 0,
         b: 0,
         c: 0,
-    }; 64]
+    }; INSTRUCTIONS]
 }
 
 fn unreadable(line: u64) -> Programs
@@ -89,7 +96,7 @@ fn unreadable(line: u64) -> Programs
             number: 0,
             n: 0,
             code: no_code(),
-        }; 16],
+        }; PROGRAMS],
     }
 }
 
@@ -99,14 +106,14 @@ fn unreadable(line: u64) -> Programs
 pub fn read_programs(s: &[u8]) -> Programs
     ensures { λ r. ⌜ ProgramsIs (now (s .entry)) r ⌝ }
 {
-    if 65535 < s.len() {
+    if TEXT_BYTES < s.len() {
         return unreadable(0);
     }
     let mut table = [Program {
         number: 0,
         n: 0,
         code: no_code(),
-    }; 16];
+    }; PROGRAMS];
     let mut v = [0u64; 6];
     let mut number: u64 = 0;
     let mut code = no_code();
@@ -115,15 +122,18 @@ pub fn read_programs(s: &[u8]) -> Programs
     let mut line: u64 = 1;
     let mut at: usize = 0;
     while at < s.len() {
-        match program_line(s, at, &mut v) {
-            Line::First(e) => {
-                if s.len() <= e {
+        let Line::Known(k, e) = program_line(s, at, &mut v) else {
+            return unreadable(line);
+        };
+        if s.len() <= e {
+            return unreadable(line);
+        }
+        match k {
+            0 => {
+                if PROGRAMS <= m {
                     return unreadable(line);
                 }
-                if 16 <= m {
-                    return unreadable(line);
-                }
-                table[(m + 15) % 16] = Program { number, n, code };
+                table[(m + LAST_PROGRAM) % PROGRAMS] = Program { number, n, code };
                 number = number_from(&v);
                 code = no_code();
                 m += 1;
@@ -131,14 +141,11 @@ pub fn read_programs(s: &[u8]) -> Programs
                 line += 1;
                 at = e + 1;
             }
-            Line::Second(e) => {
-                if s.len() <= e {
-                    return unreadable(line);
-                }
+            _ => {
                 if m == 0 {
                     return unreadable(line);
                 }
-                if 64 <= n {
+                if INSTRUCTIONS <= n {
                     return unreadable(line);
                 }
                 code[n] = instr_from(&v);
@@ -146,12 +153,9 @@ pub fn read_programs(s: &[u8]) -> Programs
                 line += 1;
                 at = e + 1;
             }
-            Line::Neither => {
-                return unreadable(line);
-            }
         }
     }
-    table[(m + 15) % 16] = Program { number, n, code };
+    table[(m + LAST_PROGRAM) % PROGRAMS] = Program { number, n, code };
     Programs {
         ok: true,
         line: 0,

@@ -1,14 +1,24 @@
 // The report: `of` lines, then `log` lines.
 ghost use mathlib.Core.Path.{_≡_};
-ghost use Prim.Native.Nat.{_<_};
 ghost use lib.ListN.{length};
 ghost use Rattle.lines.specs.Place.{cells};
-ghost use Rattle.text.specs.Formats.{ofLine, logLine};
-ghost use Rattle.text.specs.Rows.{withRow};
-ghost use Rattle.text.specs.Held.{ofAt, entryAt, ReportIs};
-ghost use Rattle.text.specs.Steps.{eitherAt, toldIn};
+ghost use Rattle.text.specs.Report.{ofFrom, entryFrom, reportKinds};
+ghost use Rattle.text.specs.Held.{ofAt, withOf, entryAt, withEntry, ReportIs, entryRoom, ofRoom};
+ghost use Rattle.text.specs.Steps.{kindAt, toldIn};
+use crate::codes::is_operation;
 use crate::kinds::Line;
-use crate::kinds::first;
+use crate::limits::ENTRIES;
+use crate::limits::ENTRY_ROW;
+use crate::limits::ENTRY_ROWS;
+use crate::limits::MOST_GROUP;
+use crate::limits::MOST_NUMBER;
+use crate::limits::MOST_OBJECT;
+use crate::limits::MOST_OPERATIONS;
+use crate::limits::MOST_RID;
+use crate::limits::OF_ROW;
+use crate::limits::OF_ROWS;
+use crate::limits::OFS;
+use crate::limits::TEXT_BYTES;
 use lines::Place;
 use lines::line_at;
 
@@ -40,59 +50,76 @@ pub enum ReportLines {
     BadLine(usize),
 }
 
-// The line from at on: an `of` or a `log` line. Most are of the second kind, which is tried first.
+// The line from at on: an `of` or a `log` line. Most are `log` lines, which are tried first.
 fn report_line(s: &[u8], at: usize, v: &mut [u64; 6]) -> Line
-    ensures { λ r. ⌜ toldIn r 3 6 (now (v .exit)) ≡ eitherAt ofLine logLine (now (s .entry)) at ⌝ }
+    ensures { λ r. ⌜ toldIn reportKinds r (now (v .exit)) ≡ kindAt reportKinds (now (s .entry)) at ⌝ }
 {
-    let low = [0, 0, 0, 6, 0, 0];
-    let high = [
-        15,
-        65535,
-        256,
-        9,
-        18446744073709551615,
-        18446744073709551615,
-    ];
-    match line_at(s, at, b"log=", 6, &low, &high, v) {
-        Place::At(e) => Line::Second(e),
-        Place::Nowhere => {
-            let none = [0u64; 6];
-            let of = [65535, 63, 256, 0, 0, 0];
-            first(line_at(s, at, b"of=", 3, &none, &of, v))
-        }
+    let max: u64 = MOST_NUMBER;
+    let low = [0u64; 6];
+    let log = [MOST_OBJECT, MOST_RID, MOST_OPERATIONS, max, max, max];
+    if let Place::At(e) = line_at(s, at, b"log=", 6, &low, &log, v) {
+        return Line::Known(1, e);
+    }
+    let of = [MOST_RID, MOST_GROUP, MOST_OPERATIONS, 0, 0, 0];
+    if let Place::At(e) = line_at(s, at, b"of=", 3, &low, &of, v) {
+        return Line::Known(0, e);
+    }
+    Line::Unknown
+}
+
+fn of_from(v: &[u64; 6]) -> Of
+    ensures { λ r. ⌜ r ≡ ofFrom (cells 3 (now (v .entry))) ⌝ }
+{
+    Of {
+        rid: v[0],
+        group: v[1],
+        count: v[2],
     }
 }
 
-// Row i of ofs: the line's three numbers.
-fn put_of(ofs: &mut [u64; 192], i: usize, v: &[u64; 6])
-    requires { ⌜ i < 64 ⌝ }
-    ensures { λ _. ⌜ now (ofs .exit) ≡ withRow 3 (now (ofs .entry)) i (cells 3 (now (v .entry))) ⌝ }
+fn entry_from(v: &[u64; 6]) -> Entry
+    ensures { λ r. ⌜ r ≡ entryFrom (cells 6 (now (v .entry))) ⌝ }
 {
-    let k = i * 3;
-    ofs[k] = v[0];
-    ofs[k + 1] = v[1];
-    ofs[k + 2] = v[2];
+    Entry {
+        rid: v[1],
+        num: v[2],
+        op: Op {
+            object: v[0],
+            kind: v[3],
+            key: v[4],
+            value: v[5],
+        },
+    }
 }
 
-// Row i of logs: the line's six numbers.
-fn put_entry(logs: &mut [u64; 6144], i: usize, v: &[u64; 6])
-    requires { ⌜ i < 1024 ⌝ }
-    ensures { λ _. ⌜ now (logs .exit) ≡ withRow 6 (now (logs .entry)) i (cells 6 (now (v .entry))) ⌝ }
+// `of` line i becomes x.
+pub fn put_of(ofs: &mut [u64; OF_ROWS], i: usize, x: Of)
+    ensures { λ _. ⌜ now (ofs .exit) ≡ withOf (now (ofs .entry)) i x ⌝ }
 {
-    let k = i * 6;
-    logs[k] = v[0];
-    logs[k + 1] = v[1];
-    logs[k + 2] = v[2];
-    logs[k + 3] = v[3];
-    logs[k + 4] = v[4];
-    logs[k + 5] = v[5];
+    let k = i % OFS * OF_ROW;
+    ofs[k] = x.rid;
+    ofs[k + 1] = x.group;
+    ofs[k + 2] = x.count;
+}
+
+// `log` line i becomes x.
+pub fn put_entry(logs: &mut [u64; ENTRY_ROWS], i: usize, x: Entry)
+    ensures { λ _. ⌜ now (logs .exit) ≡ withEntry (now (logs .entry)) i x ⌝ }
+{
+    let k = i % ENTRIES * ENTRY_ROW;
+    logs[k] = x.op.object;
+    logs[k + 1] = x.rid;
+    logs[k + 2] = x.num;
+    logs[k + 3] = x.op.kind;
+    logs[k + 4] = x.op.key;
+    logs[k + 5] = x.op.value;
 }
 
 // `of` line i of a report that was read.
-pub fn of_at(ofs: &[u64; 192], i: usize) -> Of
+pub fn of_at(ofs: &[u64; OF_ROWS], i: usize) -> Of
     ensures { λ r. ⌜ r ≡ ofAt (now (ofs .entry)) i ⌝ }
 {
-    let k = i % 64 * 3;
+    let k = i % OFS * OF_ROW;
     Of {
         rid: ofs[k],
         group: ofs[k + 1],
@@ -101,10 +128,10 @@ pub fn of_at(ofs: &[u64; 192], i: usize) -> Of
 }
 
 // `log` line i of a report that was read.
-pub fn entry_at(logs: &[u64; 6144], i: usize) -> Entry
+pub fn entry_at(logs: &[u64; ENTRY_ROWS], i: usize) -> Entry
     ensures { λ r. ⌜ r ≡ entryAt (now (logs .entry)) i ⌝ }
 {
-    let k = i % 1024 * 6;
+    let k = i % ENTRIES * ENTRY_ROW;
     Entry {
         rid: logs[k + 1],
         num: logs[k + 2],
@@ -118,11 +145,11 @@ pub fn entry_at(logs: &[u64; 6144], i: usize) -> Entry
 }
 
 // Reads a report into ofs and logs.
-pub fn read_report(s: &[u8], ofs: &mut [u64; 192], logs: &mut [u64; 6144]) -> ReportLines
-    requires { ⌜ (length (now ofs) ≡ 192) × (length (now logs) ≡ 6144) ⌝ }
+pub fn read_report(s: &[u8], ofs: &mut [u64; OF_ROWS], logs: &mut [u64; ENTRY_ROWS]) -> ReportLines
+    requires { ⌜ (length (now ofs) ≡ ofRoom) × (length (now logs) ≡ entryRoom) ⌝ }
     ensures { λ r. ⌜ ReportIs (now (s .entry)) r (now (ofs .exit)) (now (logs .exit)) ⌝ }
 {
-    if 65535 < s.len() {
+    if TEXT_BYTES < s.len() {
         return ReportLines::BadLine(0);
     }
     let mut v = [0u64; 6];
@@ -131,34 +158,35 @@ pub fn read_report(s: &[u8], ofs: &mut [u64; 192], logs: &mut [u64; 6144]) -> Re
     let mut at: usize = 0;
     while at < s.len() {
         let line = m + n + 1;
-        match report_line(s, at, &mut v) {
-            Line::First(e) => {
-                if s.len() <= e {
-                    return ReportLines::BadLine(line);
-                }
+        let Line::Known(k, e) = report_line(s, at, &mut v) else {
+            return ReportLines::BadLine(line);
+        };
+        if s.len() <= e {
+            return ReportLines::BadLine(line);
+        }
+        match k {
+            0 => {
                 if 0 < n {
                     return ReportLines::BadLine(line);
                 }
-                if 64 <= m {
+                if OFS <= m {
                     return ReportLines::BadLine(line);
                 }
-                put_of(ofs, m, &v);
+                put_of(ofs, m, of_from(&v));
                 m += 1;
                 at = e + 1;
             }
-            Line::Second(e) => {
-                if s.len() <= e {
+            _ => {
+                let x = entry_from(&v);
+                if !is_operation(x.op.kind) {
                     return ReportLines::BadLine(line);
                 }
-                if 1024 <= n {
+                if ENTRIES <= n {
                     return ReportLines::BadLine(line);
                 }
-                put_entry(logs, n, &v);
+                put_entry(logs, n, x);
                 n += 1;
                 at = e + 1;
-            }
-            Line::Neither => {
-                return ReportLines::BadLine(line);
             }
         }
     }

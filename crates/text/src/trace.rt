@@ -1,16 +1,20 @@
 // The trace: `request` and `response` lines in time order.
 ghost use mathlib.Core.Path.{_≡_};
-ghost use mathlib.Core.List.{_∷_};
-ghost use Prim.Native.Nat.{_<_};
 ghost use lib.ListN.{length};
 ghost use Rattle.lines.specs.Place.{cells};
-ghost use Rattle.text.specs.Formats.{requestLine, responseLine};
-ghost use Rattle.text.specs.Rows.{withRow};
-ghost use Rattle.text.specs.Held.{eventAt, TraceIs};
-ghost use Rattle.text.specs.Steps.{eitherAt, toldIn};
+ghost use Rattle.text.specs.Trace.{requestFrom, responseFrom, traceKinds};
+ghost use Rattle.text.specs.Held.{eventAt, withEvent, TraceIs, eventRoom};
+ghost use Rattle.text.specs.Steps.{kindAt, toldIn};
 use crate::kinds::Line;
 use crate::kinds::Lines;
-use crate::kinds::second;
+use crate::limits::EVENT_ROW;
+use crate::limits::EVENT_ROWS;
+use crate::limits::EVENTS;
+use crate::limits::MOST_NUMBER;
+use crate::limits::MOST_RID;
+use crate::limits::REQUESTS;
+use crate::limits::RESPONSES;
+use crate::limits::TEXT_BYTES;
 use lines::Place;
 use lines::line_at;
 
@@ -22,38 +26,70 @@ pub enum Event {
 
 // The line from at on: a request or a response.
 fn trace_line(s: &[u8], at: usize, v: &mut [u64; 6]) -> Line
-    ensures { λ r. ⌜ toldIn r 4 3 (now (v .exit)) ≡ eitherAt requestLine responseLine (now (s .entry)) at ⌝ }
+    ensures { λ r. ⌜ toldIn traceKinds r (now (v .exit)) ≡ kindAt traceKinds (now (s .entry)) at ⌝ }
 {
-    let max: u64 = 18446744073709551615;
+    let max: u64 = MOST_NUMBER;
     let low = [0u64; 6];
-    let request = [65535, max, max, max, 0, 0];
-    match line_at(s, at, b"request=", 4, &low, &request, v) {
-        Place::At(e) => Line::First(e),
-        Place::Nowhere => {
-            let response = [65535, 1, max, 0, 0, 0];
-            second(line_at(s, at, b"response=", 3, &low, &response, v))
+    let request = [MOST_RID, max, max, max, 0, 0];
+    if let Place::At(e) = line_at(s, at, b"request=", 4, &low, &request, v) {
+        return Line::Known(0, e);
+    }
+    let response = [MOST_RID, 1, max, 0, 0, 0];
+    if let Place::At(e) = line_at(s, at, b"response=", 3, &low, &response, v) {
+        return Line::Known(1, e);
+    }
+    Line::Unknown
+}
+
+fn request_from(v: &[u64; 6]) -> Event
+    ensures { λ r. ⌜ r ≡ requestFrom (cells 4 (now (v .entry))) ⌝ }
+{
+    Event::Request {
+        rid: v[0],
+        prog: v[1],
+        a: v[2],
+        b: v[3],
+    }
+}
+
+fn response_from(v: &[u64; 6]) -> Event
+    ensures { λ r. ⌜ r ≡ responseFrom (cells 3 (now (v .entry))) ⌝ }
+{
+    Event::Response {
+        rid: v[0],
+        status: v[1],
+        value: v[2],
+    }
+}
+
+// Event i becomes x.
+pub fn put_event(events: &mut [u64; EVENT_ROWS], i: usize, x: Event)
+    ensures { λ _. ⌜ now (events .exit) ≡ withEvent (now (events .entry)) i x ⌝ }
+{
+    let k = i % EVENTS * EVENT_ROW;
+    match x {
+        Event::Request { rid, prog, a, b } => {
+            events[k] = 0;
+            events[k + 1] = rid;
+            events[k + 2] = prog;
+            events[k + 3] = a;
+            events[k + 4] = b;
+        }
+        Event::Response { rid, status, value } => {
+            events[k] = 1;
+            events[k + 1] = rid;
+            events[k + 2] = status;
+            events[k + 3] = value;
+            events[k + 4] = 0;
         }
     }
 }
 
-// Row i of events: 0 for a request or 1 for a response, and the line's numbers.
-fn put_event(events: &mut [u64; 640], i: usize, kind: u64, v: &[u64; 6])
-    requires { ⌜ i < 128 ⌝ }
-    ensures { λ _. ⌜ now (events .exit) ≡ withRow 5 (now (events .entry)) i (kind ∷ cells 4 (now (v .entry))) ⌝ }
-{
-    let k = i * 5;
-    events[k] = kind;
-    events[k + 1] = v[0];
-    events[k + 2] = v[1];
-    events[k + 3] = v[2];
-    events[k + 4] = v[3];
-}
-
 // Event i of a trace that was read.
-pub fn event_at(events: &[u64; 640], i: usize) -> Event
+pub fn event_at(events: &[u64; EVENT_ROWS], i: usize) -> Event
     ensures { λ r. ⌜ r ≡ eventAt (now (events .entry)) i ⌝ }
 {
-    let k = i % 128 * 5;
+    let k = i % EVENTS * EVENT_ROW;
     if events[k] == 0 {
         return Event::Request {
             rid: events[k + 1],
@@ -70,11 +106,11 @@ pub fn event_at(events: &[u64; 640], i: usize) -> Event
 }
 
 // Reads a trace into events.
-pub fn read_trace(s: &[u8], events: &mut [u64; 640]) -> Lines
-    requires { ⌜ length (now events) ≡ 640 ⌝ }
+pub fn read_trace(s: &[u8], events: &mut [u64; EVENT_ROWS]) -> Lines
+    requires { ⌜ length (now events) ≡ eventRoom ⌝ }
     ensures { λ r. ⌜ TraceIs (now (s .entry)) r (now (events .exit)) ⌝ }
 {
-    if 65535 < s.len() {
+    if TEXT_BYTES < s.len() {
         return Lines::Unreadable(0);
     }
     let mut v = [0u64; 6];
@@ -83,31 +119,28 @@ pub fn read_trace(s: &[u8], events: &mut [u64; 640]) -> Lines
     let mut at: usize = 0;
     while at < s.len() {
         let line = m + n + 1;
-        match trace_line(s, at, &mut v) {
-            Line::First(e) => {
-                if s.len() <= e {
+        let Line::Known(k, e) = trace_line(s, at, &mut v) else {
+            return Lines::Unreadable(line);
+        };
+        if s.len() <= e {
+            return Lines::Unreadable(line);
+        }
+        match k {
+            0 => {
+                if REQUESTS <= m {
                     return Lines::Unreadable(line);
                 }
-                if 64 <= m {
-                    return Lines::Unreadable(line);
-                }
-                put_event(events, m + n, 0, &v);
+                put_event(events, m + n, request_from(&v));
                 m += 1;
                 at = e + 1;
             }
-            Line::Second(e) => {
-                if s.len() <= e {
+            _ => {
+                if RESPONSES <= n {
                     return Lines::Unreadable(line);
                 }
-                if 64 <= n {
-                    return Lines::Unreadable(line);
-                }
-                put_event(events, m + n, 1, &v);
+                put_event(events, m + n, response_from(&v));
                 n += 1;
                 at = e + 1;
-            }
-            Line::Neither => {
-                return Lines::Unreadable(line);
             }
         }
     }

@@ -6,6 +6,7 @@ use crate::containers::print_line;
 use crate::containers::read_header;
 use lines::Fields;
 use lines::written;
+use verifier::PRINTED;
 use verifier::audit;
 use verifier::audit_text;
 ghost use Prim.Native.Nat.{_≤_};
@@ -14,7 +15,7 @@ ghost use lib.ListN.{length};
 // What is printed of a batch.
 fn found(programs: &[u8], trace: &[u8], report: &[u8]) -> Fields {
     let a = audit(programs, trace, report);
-    let mut out = [0u8; 14763];
+    let mut out = [0u8; PRINTED];
     let n = written(audit_text(programs, trace, report, &mut out));
     let end = end_of(&out, 0, n);
     Fields {

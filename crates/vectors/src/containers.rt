@@ -6,10 +6,14 @@ use lines::Place;
 use lines::Put;
 use lines::line_at;
 use lines::put_line;
+use verifier::TEXT_ROOM;
 ghost use mathlib.Core.Path.{_≡_};
 ghost use Prim.Native.Nat.{_+_, min};
 ghost use lib.ListN.{length};
 ghost use Rattle.vectors.specs.Headers.{EndsWithin};
+
+// No text of a vector is longer, nor a buffer that is lent for one.
+const MOST_LENGTH: u64 = TEXT_ROOM as u64;
 
 // Where the name of a vector ends and where its header; or it has none.
 pub enum Header {
@@ -37,7 +41,7 @@ pub(crate) fn read_header(s: &[u8], n: usize, v: &mut [u64; 6]) -> Header
     let equals = bytes::scan::find(s, 0, s.len(), b'=');
     let name = end_of(s, equals, 1);
     let low = [0u64; 6];
-    let high = [65536u64; 6];
+    let high = [MOST_LENGTH; 6];
     match line_at(s, 0, &s[0..name], n, &low, &high, v) {
         Place::At(e) => Header::Ends(name, end_of(s, e, 1)),
         Place::Nowhere => Header::Unreadable,

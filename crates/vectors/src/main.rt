@@ -10,6 +10,7 @@ mod containers;
 mod schedules;
 
 use batches::run_batch;
+use files::BUFFER_BYTES;
 use files::Got;
 use files::front;
 use files::read_file;
@@ -44,7 +45,7 @@ fn run_vectors(s: &[u8]) {
 
 // Runs the vectors of a file. Where it is missing or cannot be read, lines are missing from what is printed.
 fn run_file(path: &[u8]) {
-    let mut buf = [0u8; 262144];
+    let mut buf = [0u8; BUFFER_BYTES];
     let Got::Bytes(n) = read_file(path, &mut buf) else {
         return;
     };

@@ -5,6 +5,7 @@ use crate::containers::end_of;
 use crate::containers::print_line;
 use crate::containers::read_header;
 use host::Recorded;
+use host::TEXT_ROOM;
 use host::record;
 use lines::Fields;
 ghost use Prim.Native.Nat.{_≤_};
@@ -40,8 +41,8 @@ pub(crate) fn run_schedule(s: &[u8]) -> usize
     };
     let schedule = end_of(s, start, v[0] as usize);
     let end = end_of(s, schedule, v[1] as usize);
-    let mut trace = [254u8; 65536];
-    let mut report = [255u8; 65536];
+    let mut trace = [254u8; TEXT_ROOM];
+    let mut report = [255u8; TEXT_ROOM];
     let t = v[2] as usize;
     let n = v[3] as usize;
     let r = run_lent(

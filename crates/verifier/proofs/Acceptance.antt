@@ -8,12 +8,13 @@ use mathlib.Core.Path.{_≡_, refl, sym, ap, _∙_, subst}
 use native.Mathlib.Omega.{arith}
 use lib.Dec.{eqb}
 use lib.ListN.{length}
+use Rattle.basics.specs.Lists.{All}
+use Rattle.basics.specs.Count.{count}
+use Rattle.basics.proofs.Tests.{eqb-no}
 use Rattle.text.specs.Programs.{readPrograms, known}
 use Rattle.text.specs.Report.{noLines, readReport}
-use Rattle.text.specs.Text.{readable, count}
+use Rattle.text.specs.Text.{readable}
 use Rattle.text.specs.Trace.{isRequest, readTrace}
-use Rattle.ordering.specs.Lists.{All}
-use Rattle.ordering.proofs.Basics.{eqb-no}
 use Rattle.model.specs.Audit.{from4, audit}
 use Rattle.model.specs.Batch.{batchOf}
 use Rattle.model.specs.Checks.{verdict, Verdict, firstFault, badLine, contents}
@@ -26,24 +27,24 @@ use Rattle.machine.specs.Instance.{machineOf}
 use Rattle.machine.specs.Objects.{atStart}
 use Rattle.verifier.specs.Accepts.{Accepts}
 use Rattle.verifier.specs.Faults.{checksOf, audited, auditedOf, auditOf}
-use Rattle.verifier.specs.Readings.{Readings}
+use Rattle.verifier.specs.Readings.{Readings, opening}
 use Rattle.verifier.specs.Returns.{OrderReturns}
 use Rattle.verifier.specs.declared.Audited.{Audited}
 
 module _ (programs trace report : List ℕ) where
   -- the model's audit of what was read
   abbrev verdictOf : Readings programs trace report → Verdict
-  verdictOf x = audit (machineOf (x .table)) atStart (known (x .table)) (batchOf (x .events) (x .lines))
+  verdictOf x = audit (machineOf (x .table)) (opening x) (known (x .table)) (batchOf (x .events) (x .lines))
 
   -- is that of the texts,
   pub audit-of-read : (x : Readings programs trace report) →
       auditOf programs trace report ≡ audited (verdictOf x) (count isRequest (x .events)) (length (x .lines .log))
   unfolding auditOf
   audit-of-read x =
-      let v : verdictOf x ≡ firstFault (checksOf (readable (x .table)) (readable (x .events)) (readable (x .lines))) =
-      sym (audit-rows (machineOf (x .table)) atStart (known (x .table)) (x .events) (x .lines))
+      let v : verdictOf x ≡ firstFault (checksOf (opening x) (readable (x .table)) (readable (x .events)) (readable (x .lines))) =
+      sym (audit-rows (machineOf (x .table)) (opening x) (known (x .table)) (x .events) (x .lines))
       ∙ passes verdict 2 (row2 (x .table)) _ (x .rules) in
-      (λ i. auditedOf (x .tableRead i) (x .eventsRead i) (x .linesRead i))
+      (λ i. auditedOf (opening x) (x .tableRead i) (x .eventsRead i) (x .linesRead i))
       ∙ sym (ap (λ v. audited v (count isRequest (x .events)) (length (x .lines .log))) v)
 
   -- and texts with a verdict of none of the rows 1 to 5 were read
@@ -87,11 +88,11 @@ module _ (programs trace report : List ℕ) where
         λ e.
             let h = zero .0 e in
             let table = h .0 .table in
-            let v = line-of-0 (machineOf table) atStart (known table) _ (h .1) in
-            record { texts = h .0; demand = audit-exactly (machineOf table) atStart (known table) _ .0 v },
+            let v = line-of-0 (machineOf table) (opening (h .0)) (known table) _ (h .1) in
+            record { texts = h .0; demand = audit-exactly (machineOf table) (opening (h .0)) (known table) _ .0 v },
         λ a.
             let table = a .texts .table in
-            zero .1 (a .texts, ap (λ v. v .number) (audit-exactly (machineOf table) atStart (known table) _ .1 (a .demand))),
+            zero .1 (a .texts, ap (λ v. v .number) (audit-exactly (machineOf table) (opening (a .texts)) (known table) _ .1 (a .demand))),
       )
 
   pub audit-returns : (auditOf programs trace report .verdict ≡ 9) ↔ OrderReturns programs trace report
@@ -100,11 +101,11 @@ module _ (programs trace report : List ℕ) where
         λ e.
             let h = nine .0 e in
             let table = h .0 .table in
-            let w = row-9 (machineOf table) atStart (known table) _ .0 (line-of-9 (machineOf table) atStart (known table) _ (h .1)) in
+            let w = row-9 (machineOf table) (opening (h .0)) (known table) _ .0 (line-of-9 (machineOf table) (opening (h .0)) (known table) _ (h .1)) in
             record { texts = h .0; none-to-8 = w .0; returns = w .1 },
         λ a.
             let table = a .texts .table in
-            nine .1 (a .texts, ap (λ v. v .number) (row-9 (machineOf table) atStart (known table) _ .1 (a .none-to-8, a .returns))),
+            nine .1 (a .texts, ap (λ v. v .number) (row-9 (machineOf table) (opening (a .texts)) (known table) _ .1 (a .none-to-8, a .returns))),
       )
 
 -- ── the counts ──
@@ -119,7 +120,7 @@ module _ (programs trace report : List ℕ) where
 
   pub audit-refuses : found .verdict ≢ 0 → (found .requests ≡ 0) × (found .operations ≡ 0) × (found .blocks ≡ 0) × (found .rest ≡ 0)
   unfolding auditOf
-  audit-refuses h = refusal-counts (firstFault (checksOf (readPrograms programs) (readTrace trace) (readReport report))) _ _ h
+  audit-refuses h = refusal-counts (firstFault (checksOf atStart (readPrograms programs) (readTrace trace) (readReport report))) _ _ h
 
   -- blocks and rest make up the operations
   pub audit-charges : (100 * found .blocks + found .rest ≡ found .operations) × (found .rest < 100)

@@ -2,7 +2,6 @@
 pub mod Searches
 pub mod TraceScans
 pub mod ReportScans
-pub mod TraceRanges
 pub mod ReportRanges
 pub mod Verdicts
 pub mod PrintedLines

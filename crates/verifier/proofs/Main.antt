@@ -5,14 +5,15 @@ use mathlib.Core.List.{List, [], _∷_, _++_}
 use mathlib.Core.Logic.{_↔_, _≢_}
 use mathlib.Core.Path.{_≡_, refl}
 use lib.ListN.{length}
+use Rattle.basics.specs.Count.{count}
 use Rattle.lines.specs.Bytes.{bytes}
 use Rattle.lines.specs.LineText.{lineText}
 use Rattle.text.specs.Programs.{readPrograms}
 use Rattle.text.specs.Report.{noLines, readReport}
-use Rattle.text.specs.Text.{count}
 use Rattle.text.specs.Trace.{isRequest, readTrace}
 use Rattle.writing.specs.Verdict.{verdictText}
 use Rattle.model.specs.Checks.{firstFault, contents}
+use Rattle.machine.specs.Objects.{atStart}
 use Rattle.verifier.specs.Accepts.{Accepts}
 use Rattle.verifier.specs.Faults.{checksOf, audited, auditOf}
 use Rattle.verifier.specs.Order.{orderOf, orderText}
@@ -27,7 +28,7 @@ module _ (programs trace report : List ℕ) where
   -- Demand 2: the first of the rows that holds is the verdict, with its line, and 0 where none does; then the counts are those of the texts.
   pub meaning : auditOf programs trace report
       ≡ audited
-      (firstFault (checksOf (readPrograms programs) (readTrace trace) (readReport report)))
+      (firstFault (checksOf atStart (readPrograms programs) (readTrace trace) (readReport report)))
       (count isRequest (contents [] (readTrace trace)))
       (length (contents noLines (readReport report) .log))
   unfolding auditOf

@@ -8,17 +8,18 @@ use native.Mathlib.Omega.{arith}
 use borrow.Author.Tests.{lt-ltb, le-ltb}
 use lib.Dec.{ltb}
 use lib.ListN.{length, getD, set, drop, length-append, length-drop}
+use Rattle.basics.specs.Firsts.{firsts}
+use Rattle.basics.proofs.Firsts.{firsts-same, firsts-split}
 use Rattle.lines.specs.Put.{front, PutIs}
 use Rattle.lines.specs.declared.writer.Put.the-variants.{Wrote, Short}
 use Rattle.lines.proofs.Puts.{put-short, put-fits, front-none, front-two}
 use Rattle.text.specs.Held.{eventAt, entryAt}
-use Rattle.text.specs.Rows.{firsts}
 use Rattle.text.specs.declared.report.Entry.{Entry}
-use Rattle.text.proofs.RowLaws.{firsts-same, firsts-split}
 use Rattle.model.specs.Batch.{Node, ev, ln}
 use Rattle.model.specs.ByRule.{itemOf}
 use Rattle.model.specs.PlainRun.{Item, event, operation}
-use Rattle.replay.specs.Judges.{nodeAt, OrdersIn}
+use Rattle.replay.specs.Arrays.{Arrays, within, nodeAt}
+use Rattle.replay.specs.Judges.{Orders}
 use Rattle.verifier.specs.Faults.{auditOf}
 use Rattle.verifier.specs.Order.{orderOf, orderNumbers}
 use Rattle.verifier.specs.OrderRead.{OrderRead}
@@ -136,8 +137,9 @@ module _ (events logs : List ℕ) (n : ℕ) (order : List ℕ) (k : ℕ) (o : Li
       f .written ∙ ap (λ t. front t o) (sym e)
 
 -- ── what `put_numbers` leaves ──
-module _ (events : List ℕ) (t : ℕ) (ofs : List ℕ) (m : ℕ) (logs : List ℕ) (n : ℕ) (o : List ℕ) (items : List Item)
-    (is : OrderIs events t ofs m logs n items) where
+module _ (a : Arrays) (o : List ℕ) (items : List Item) (is : OrderIs a items) where
+  open Arrays a using (events, t, logs, n)
+
   numbers-long : length (orderNumbers 1 items) ≡ 2 * (n + t)
   numbers-long = numbers-length 1 items ∙ ap (λ k. 2 * k) (is .all)
 
@@ -152,7 +154,7 @@ module _ (events : List ℕ) (t : ℕ) (ofs : List ℕ) (m : ℕ) (logs : List �
   pub put-no-room : length o < 2 * (n + t) → PutIs (orderNumbers 1 items) o o Short
   put-no-room h = put-short (orderNumbers 1 items) o (omega (arith, numbers-long))
 
-  pub put-placed : 2 * (n + t) ≤ length o → (order : List ℕ) → OrdersIn events t ofs m logs n order → (out : List ℕ) →
+  pub put-placed : 2 * (n + t) ≤ length o → (order : List ℕ) → Orders (within a) order → (out : List ℕ) →
       out ≡ front (orderNumbers 1 (itemsIn events logs n order (n + t))) o → PutIs (orderNumbers 1 items) o out (Wrote (2 * (n + t)))
   put-placed h order d out e =
       put-fits (orderNumbers 1 items) o out (2 * (n + t)) (omega (arith, numbers-long)) (sym numbers-long)

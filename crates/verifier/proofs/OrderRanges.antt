@@ -5,17 +5,19 @@ use mathlib.Core.List.{List, [], _∷_, map}
 use mathlib.Core.Path.{_≡_, refl, sym, ap, _∙_, subst}
 use native.Mathlib.Omega.{arith}
 use lib.ListN.{length, length-append}
+use Rattle.basics.specs.Lists.{All}
+use Rattle.basics.specs.Count.{count}
+use Rattle.basics.proofs.Lists.{all-append, all-map, all-imp, all-any, count-append, count-map, count-all, count-zero}
+use Rattle.basics.proofs.Tests.{byEq}
 use Rattle.lines.specs.Bytes.{bytes}
 use Rattle.lines.specs.Decimal.{digitsIn, decimal}
 use Rattle.lines.specs.Line.{upTo}
 use Rattle.lines.proofs.LineTrip.{line-bound}
 use Rattle.text.specs.declared.report.Entry.{Entry}
 use Rattle.text.specs.declared.trace.Event.{Event}
+use Rattle.text.proofs.Ranges.{trace-few}
 use Rattle.writing.specs.Order.{eventItem, operationItem}
-use Rattle.ordering.specs.Lists.{All, tally}
-use Rattle.ordering.proofs.Basics.{byEq}
-use Rattle.ordering.proofs.Lanes.{all-lanes, tally-lanes}
-use Rattle.ordering.proofs.Lists.{all-append, all-map, all-imp, all-any, tally-append, tally-map, tally-all, tally-no}
+use Rattle.ordering.proofs.Lanes.{all-lanes, count-lanes}
 use Rattle.model.specs.Batch.{Batch, batchOf, Node, ev, ln, countOf}
 use Rattle.model.specs.Nodes.{lane, nodes, mergeOf}
 use Rattle.model.specs.ByRule.{itemOf}
@@ -30,7 +32,6 @@ use Rattle.verifier.proofs.Acceptance.{audit-accepts}
 use Rattle.verifier.proofs.OrderReads.{order-none, order-of-read, merge-order, lines-counted}
 use Rattle.verifier.proofs.OrderTexts.{NotZero}
 use Rattle.verifier.proofs.ReportRanges.{report-in-range}
-use Rattle.verifier.proofs.TraceRanges.{trace-few}
 
 -- ── items in range, and their lines ──
 abbrev pub isEvent : Item → Bool
@@ -64,14 +65,14 @@ lines-numbered : (count : ℕ → ℕ) (ls : List Entry) → All (Counted count)
 lines-numbered count = all-imp (Counted count) (λ l. NotZero (itemOf (ln l))) (λ l c i. omega (arith, c .low))
 
 -- each item is an operation or an event
-items-counted : (xs : List Item) → length xs ≡ tally isOperation xs + tally isEvent xs
+items-counted : (xs : List Item) → length xs ≡ count isOperation xs + count isEvent xs
 items-counted [] = refl
 items-counted (event e ∷ xs) = omega (arith, items-counted xs)
 items-counted (operation r k ∷ xs) = omega (arith, items-counted xs)
 
 -- n is the trace line of the first event
-text-most : (n : ℕ) (xs : List Item) → All Small xs → n + tally isEvent xs ≤ 129 →
-    length (orderText n xs) ≤ 13 * tally isOperation xs + 10 * tally isEvent xs
+text-most : (n : ℕ) (xs : List Item) → All Small xs → n + count isEvent xs ≤ 129 →
+    length (orderText n xs) ≤ 13 * count isOperation xs + 10 * count isEvent xs
 unfolding orderText
 text-most n [] s h = omega arith
 text-most n (event e ∷ xs) s h =
@@ -93,32 +94,32 @@ module _ (b : Batch) (order : List Node) (o : OrderOf b order) where
       (all-map (λ y. P (itemOf y)) ln (b .log) h)
       (all-map (λ y. P (itemOf y)) ev (b .trace) (all-any (λ e. P (event e)) k (b .trace)))))
 
-  tally-items : (f : Item → Bool) →
-      tally f (map itemOf order) ≡ tally (λ l. f (itemOf (ln l))) (b .log) + tally (λ e. f (itemOf (ev e))) (b .trace)
-  tally-items f =
+  count-items : (f : Item → Bool) →
+      count f (map itemOf order) ≡ count (λ l. f (itemOf (ln l))) (b .log) + count (λ e. f (itemOf (ev e))) (b .trace)
+  count-items f =
       let g : Node → Bool = λ y. f (itemOf y) in
-      tally-map f itemOf order
-      ∙ tally-lanes lane g order (nodes b) (o .lanes)
-      ∙ tally-append g (map ln (b .log)) (map ev (b .trace))
-      ∙ (λ i. tally-map g ln (b .log) i + tally-map g ev (b .trace) i)
+      count-map f itemOf order
+      ∙ count-lanes lane g order (nodes b) (o .lanes)
+      ∙ count-append g (map ln (b .log)) (map ev (b .trace))
+      ∙ (λ i. count-map g ln (b .log) i + count-map g ev (b .trace) i)
 
   items-length : length (map itemOf order) ≡ length (b .log) + length (b .trace)
   items-length =
       omega (
         arith,
         items-counted (map itemOf order),
-        tally-items isOperation,
-        tally-items isEvent,
-        tally-all (b .log),
-        tally-no (b .log),
-        tally-all (b .trace),
-        tally-no (b .trace),
+        count-items isOperation,
+        count-items isEvent,
+        count-all (b .log),
+        count-zero (b .log),
+        count-all (b .trace),
+        count-zero (b .trace),
       )
 
 -- ── the order of three texts ──
 pub record Ranged (xs : List Item) : Type 0 where
-  pub operations : tally isOperation xs ≤ 1024
-  pub events : tally isEvent xs ≤ 128
+  pub operations : count isOperation xs ≤ 1024
+  pub events : count isEvent xs ≤ 128
   pub numbered : All NotZero xs
   pub small : All Small xs
 
@@ -141,8 +142,8 @@ module _ (programs trace report : List ℕ) where
           let c = lines-counted programs trace report e x in
           subst Ranged (sym (order-of-read programs trace report e x))
           (record {
-            operations = omega (arith, tally-items b order o isOperation, tally-all (b .log), tally-no (b .trace), r .few);
-            events = omega (arith, tally-items b order o isEvent, tally-no (b .log), tally-all (b .trace), t);
+            operations = omega (arith, count-items b order o isOperation, count-all (b .log), count-zero (b .trace), r .few);
+            events = omega (arith, count-items b order o isEvent, count-zero (b .log), count-all (b .trace), t);
             numbered = all-items b order o NotZero (lines-numbered (countOf (b .ofs)) (b .log) c) (λ e. tt);
             small = all-items b order o Small (lines-small (b .log) (r .rids) (r .nums)) (λ e. tt);
           })

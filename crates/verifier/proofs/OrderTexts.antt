@@ -5,13 +5,13 @@ use mathlib.Core.Logic.{_≢_}
 use mathlib.Core.Path.{_≡_, refl, sym, ap, ap₂, _∙_}
 use native.Mathlib.Omega.{arith}
 use lib.ListN.{length, drop, getD}
+use Rattle.basics.specs.Lists.{All}
+use Rattle.basics.specs.Firsts.{firsts}
+use Rattle.basics.proofs.Firsts.{firsts-same, firsts-front}
 use Rattle.lines.specs.Put.{front}
-use Rattle.text.specs.Rows.{firsts}
 use Rattle.text.specs.Written.{linesText}
-use Rattle.text.proofs.RowLaws.{firsts-same, firsts-front}
 use Rattle.writing.specs.Order.{itemText, itemAt, itemsText}
 use Rattle.writing.proofs.OrderWriting.{event-text, operation-text}
-use Rattle.ordering.specs.Lists.{All}
 use Rattle.model.specs.PlainRun.{Item, event, operation}
 use Rattle.verifier.specs.Order.{orderNumbers, orderText}
 

@@ -1,18 +1,14 @@
--- What a readable report holds is in the ranges of its fields.
+-- What a readable report holds is in the ranges of its fields, as this crate asks for them.
 use Prim.Native.Nat.{ℕ, _≤_, _<_}
-use mathlib.Core.List.{List, [], _∷_, _++_}
-use mathlib.Core.Option.{none, some}
-use mathlib.Core.Path.{_≡_, subst}
+use mathlib.Core.List.{List, [], _∷_}
+use mathlib.Core.Path.{_≡_}
 use native.Mathlib.Omega.{arith}
-use lib.ListN.{length, getD, length-append}
-use Rattle.text.specs.Formats.{ofLine, logLine}
-use Rattle.text.specs.Report.{Report, ofFrom, entryFrom, addOf, addLog, reportKinds, readReport}
-use Rattle.text.specs.Text.{readable, within}
-use Rattle.text.specs.declared.report.Entry.{Entry}
-use Rattle.text.proofs.Ranges.{Keeps, text-keeps, within-some, range-at}
-use Rattle.ordering.specs.Lists.{All}
-use Rattle.ordering.proofs.Basics.{clash}
-use Rattle.ordering.proofs.Lists.{all-append}
+use lib.ListN.{length}
+use Rattle.basics.specs.Lists.{All}
+use Rattle.text.specs.Report.{Report, readReport}
+use Rattle.text.specs.Text.{readable}
+use Rattle.text.specs.Written.{OfIn, EntryIn}
+use Rattle.text.proofs.Ranges.{report-in}
 
 -- a report whose fields are in range
 pub record InRange (r : Report) : Type 0 where
@@ -22,44 +18,17 @@ pub record InRange (r : Report) : Type 0 where
   pub few : length (r .log) ≤ 1024
   pub counts : All (λ x. x .count ≤ 256) (r .ofs)
 
-log-keeps : Keeps InRange (record { format = logLine; add = addLog })
-unfolding addLog
-log-keeps r q vs g h e =
-    let k = range-at (logLine .ranges) vs 0 h (omega arith) in
-    let i = range-at (logLine .ranges) vs 1 h (omega arith) in
-    let j = range-at (logLine .ranges) vs 2 h (omega arith) in
-    let w = within-some (length (r .log)) 1024 _ _ e in
-    subst InRange (w .1)
-    (record {
-      objects = all-append (λ l. l .op .object < 16) (r .log) (entryFrom vs ∷ []) (g .objects) (omega (arith, k), tt);
-      rids = all-append (λ l. l .rid ≤ 65535) (r .log) (entryFrom vs ∷ []) (g .rids) (i, tt);
-      nums = all-append (λ l. l .num ≤ 256) (r .log) (entryFrom vs ∷ []) (g .nums) (j, tt);
-      few = omega (arith, w .0, length-append (r .log) (entryFrom vs ∷ []));
-      counts = g .counts;
-    })
-
-of-keeps : Keeps InRange (record { format = ofLine; add = addOf })
-unfolding addOf
-of-keeps r q vs g h e = by (r .log) e
-  where
-    k : getD vs 2 0 ≤ 256
-    k = range-at (ofLine .ranges) vs 2 h (omega arith)
-
-    by : (ls : List Entry) →
-        elim ls [ [] ↦ within (length (r .ofs)) 64 (record { ofs = r .ofs ++ ofFrom vs ∷ []; log = [] }) | l ∷ ls ↦ none ] ≡ some q → InRange q
-    by [] e =
-        subst InRange (within-some (length (r .ofs)) 64 _ _ e .1)
-        (record {
-          objects = tt;
-          rids = tt;
-          nums = tt;
-          few = omega arith;
-          counts = all-append (λ x. x .count ≤ 256) (r .ofs) (ofFrom vs ∷ []) (g .counts) (k, tt);
-        })
-    by (l ∷ ls) e = clash (cc)
+all-read : {A : Type 0} (P Q : A → Type 0) → ((x : A) → P x → Q x) → (xs : List A) → All P xs → All Q xs
+all-read P Q f [] h = tt
+all-read P Q f (x ∷ xs) h = (f x (h .0), all-read P Q f xs (h .1))
 
 pub report-in-range : (s : List ℕ) (r : Report) → readReport s ≡ readable r → InRange r
-unfolding readReport
 report-in-range s r e =
-    text-keeps InRange reportKinds (of-keeps, (log-keeps, tt)) (record { ofs = []; log = [] }) r s
-    (record { objects = tt; rids = tt; nums = tt; few = omega arith; counts = tt }) e
+    let h = report-in s r e in
+    record {
+      objects = all-read EntryIn (λ l. l .op .object < 16) (λ l i. omega (arith, i .fields .0 .below)) (r .log) (h .logIn);
+      rids = all-read EntryIn (λ l. l .rid ≤ 65535) (λ l i. i .fields .1 .0 .below) (r .log) (h .logIn);
+      nums = all-read EntryIn (λ l. l .num ≤ 256) (λ l i. i .fields .1 .1 .0 .below) (r .log) (h .logIn);
+      few = h .fewEntries;
+      counts = all-read OfIn (λ x. x .count ≤ 256) (λ x i. i .1 .1 .0 .below) (r .ofs) (h .ofsIn);
+    }

@@ -7,15 +7,16 @@ use native.Mathlib.Numerals.{add-one}
 use native.Mathlib.Omega.{arith}
 use lib.Dec.{eqb, ltb}
 use lib.ListN.{length, getD, set}
+use Rattle.basics.specs.Firsts.{firsts}
+use Rattle.basics.specs.Scans.{FirstFrom}
+use Rattle.basics.proofs.Firsts.{firsts-length}
+use Rattle.basics.proofs.Tests.{byBool, eqb-yes, eqb-no, yes-eqb, and-true, or-true}
 use Rattle.text.specs.Held.{ofAt, entryAt}
-use Rattle.text.specs.Rows.{firsts}
-use Rattle.text.specs.Scans.{FirstFrom}
 use Rattle.text.specs.declared.report.Entry.{Entry}
 use Rattle.text.specs.declared.report.Of.{Of}
 use Rattle.text.specs.declared.trace.Event.the-variants.{Request, Response}
 use Rattle.text.specs.declared.trace.Event.{Event}
-use Rattle.text.proofs.RowLaws.{firsts-length, set-next}
-use Rattle.ordering.proofs.Basics.{byBool, eqb-yes, eqb-no, yes-eqb, and-true}
+use Rattle.text.proofs.RowLaws.{set-next}
 use Rattle.model.specs.Requests.{row6From}
 use Rattle.model.specs.Claims.{bad7, row7}
 use Rattle.model.specs.FirstBad.{firstBad}
@@ -25,7 +26,7 @@ use Rattle.machine.specs.Rules.{brokenLine}
 use Rattle.machine.specs.declared.rules.Ruling.the-variants.{Kept, Broken}
 use Rattle.replay.proofs.Searches.{search-hit, search-none}
 use Rattle.verifier.specs.Steps.{any, beyond, packed, Packed, occurs, Without, reported}
-use Rattle.verifier.proofs.Searches.{or-true, any-firsts, any-at, any-none, Passed}
+use Rattle.verifier.proofs.Searches.{any-firsts, any-at, any-none, Passed}
 
 -- ── row 6: the first i of t events and the first j of m `of` lines go together ──
 pub record Matching (e : ℕ → Event) (f : ℕ → Of) (t m i j : ℕ) : Type 0 where

@@ -5,8 +5,8 @@ use mathlib.Core.List.{List, [], _∷_, _++_}
 use mathlib.Core.Path.{_≡_, refl, sym, ap, _∙_}
 use native.Mathlib.Numerals.{add-one}
 use native.Mathlib.Omega.{arith}
-use Rattle.text.specs.Rows.{firsts}
-use Rattle.ordering.proofs.Basics.{byEq}
+use Rattle.basics.specs.Firsts.{firsts}
+use Rattle.basics.proofs.Tests.{byEq, or-true}
 use Rattle.model.proofs.LineScans.{above}
 use Rattle.verifier.specs.Steps.{any}
 
@@ -15,10 +15,6 @@ or-swap true true c = refl
 or-swap true false c = refl
 or-swap false true c = refl
 or-swap false false c = refl
-
-pub or-true : (a : Bool) → (a || true) ≡ true
-or-true true = refl
-or-true false = refl
 
 module _ {A : Type 0} (f : ℕ → A) (p : A → Bool) where
   any-behind : (xs : List A) (x : A) → any p (xs ++ x ∷ []) ≡ (p x || any p xs)

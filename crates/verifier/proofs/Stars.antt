@@ -3,6 +3,7 @@ use Prim.Native.Nat.{ℕ}
 use Prim.Native.String.{String}
 use mathlib.Core.List.{List, [], _∷_, _++_, map}
 use mathlib.Core.Path.{_≡_, refl}
+use Rattle.basics.specs.Maps.{upd}
 use Rattle.lines.specs.Bytes.{bytes}
 use Rattle.lines.specs.Decimal.{digitsIn, decimal}
 use Rattle.lines.specs.Line.{prefix, fieldOf, fieldsOf, lineOf}
@@ -11,11 +12,10 @@ use Rattle.lines.specs.Number.{pushOf, digitsOf, numberOf}
 use Rattle.lines.specs.Parts.{onto, parts}
 use Rattle.text.specs.Programs.{addProgram, addDo, readPrograms}
 use Rattle.text.specs.Report.{addOf, addLog, readReport}
-use Rattle.text.specs.Text.{within, count, addLine, readLines, readText}
+use Rattle.text.specs.Text.{within, addLine, readLines, readText}
 use Rattle.text.specs.Trace.{addRequest, addResponse, readTrace}
 use Rattle.writing.specs.Order.{eventItem, operationItem}
 use Rattle.writing.specs.Verdict.{verdictText}
-use Rattle.ordering.specs.Maps.{upd}
 use Rattle.ordering.specs.Merge.{bump}
 use Rattle.model.specs.Checks.{verdict}
 use Rattle.machine.specs.Instructions.{effectAs}
@@ -93,7 +93,7 @@ cases =
 
 stars : map audits cases ≡ map (λ c. c .finds) cases
 unfolding auditOf readPrograms readTrace readReport readText readLines addLine lineOf fieldsOf fieldOf prefix numberOf digitsOf pushOf
-    parts onto within count addProgram addDo addRequest addResponse addOf addLog go effectAs upd bump
+    parts onto within addProgram addDo addRequest addResponse addOf addLog go effectAs upd bump
 stars = refl
 
 -- ── the bill ──
@@ -129,7 +129,7 @@ printed : map (λ c. printedText (text (c .programLines)) (text (c .traceLines))
     ∷ "event=1" ∷ "event=2" ∷ "op=2,1" ∷ "op=2,2" ∷ "op=1,1" ∷ "event=3" ∷ "event=4" ∷ [])
     ∷ []
 unfolding auditOf readPrograms readTrace readReport readText readLines addLine lineOf fieldsOf fieldOf prefix numberOf digitsOf pushOf
-    parts onto within count addProgram addDo addRequest addResponse addOf addLog go effectAs upd bump
+    parts onto within addProgram addDo addRequest addResponse addOf addLog go effectAs upd bump
     printedText auditedText verdictText orderOf orderText eventItem operationItem lineText numbersText separatorOf decimal digitsIn
 printed = refl
 
@@ -160,5 +160,5 @@ small =
 
 rows-1-to-8 : map audits small ≡ map (λ c. c .finds) small
 unfolding auditOf readPrograms readTrace readReport readText readLines addLine lineOf fieldsOf fieldOf prefix numberOf digitsOf pushOf
-    parts onto within count addProgram addDo addRequest addResponse addOf addLog go effectAs upd bump
+    parts onto within addProgram addDo addRequest addResponse addOf addLog go effectAs upd bump
 rows-1-to-8 = refl

@@ -4,7 +4,8 @@ use mathlib.Core.Bool.{Bool, true, false, not}
 use mathlib.Core.List.{List, [], _∷_}
 use mathlib.Core.Path.{_≡_, refl, sym, ap, _∙_}
 use native.Mathlib.Omega.{arith}
-use Rattle.text.specs.Rows.{firsts}
+use Rattle.basics.specs.Firsts.{firsts}
+use Rattle.basics.proofs.Tests.{or-true}
 use Rattle.text.specs.declared.trace.Event.the-variants.{Request, Response}
 use Rattle.text.specs.declared.trace.Event.{Event}
 use Rattle.model.specs.Requests.{bad4, row4, unanswered}
@@ -13,7 +14,7 @@ use Rattle.model.proofs.LineScans.{above, Scanned, scan-on, scan-bad}
 use Rattle.machine.specs.Rules.{brokenLine}
 use Rattle.machine.specs.declared.rules.Ruling.the-variants.{Broken}
 use Rattle.verifier.specs.Steps.{any, alike, mayStand, settles}
-use Rattle.verifier.proofs.Searches.{or-true, any-firsts}
+use Rattle.verifier.proofs.Searches.{any-firsts}
 
 -- the rid of an event is all that counts
 requested-any : (r p x y : ℕ) (es : List Event) → requested r es ≡ any (λ d. alike d (Request r p x y)) es

@@ -4,25 +4,26 @@ use mathlib.Core.Bool.{cond}
 use mathlib.Core.List.{List, [], _∷_, _++_}
 use lib.Dec.{eqb}
 use lib.ListN.{length}
+use Rattle.basics.specs.Count.{count}
 use Rattle.text.specs.Programs.{readPrograms, known}
 use Rattle.text.specs.Report.{Report, noLines, readReport}
-use Rattle.text.specs.Text.{Read, count}
+use Rattle.text.specs.Text.{Read}
 use Rattle.text.specs.Trace.{isRequest, readTrace}
 use Rattle.text.specs.declared.programs.Program.{Program}
 use Rattle.text.specs.declared.trace.Event.{Event}
 use Rattle.model.specs.Audit.{from4}
 use Rattle.model.specs.Checks.{Verdict, Check, check, firstFault, badLine, contents}
 use Rattle.machine.specs.Instance.{machineOf}
-use Rattle.machine.specs.Objects.{atStart}
+use Rattle.machine.specs.Objects.{Content, atStart}
 use Rattle.machine.specs.Front.{programChecks}
 use Rattle.verifier.specs.declared.Audited.{Audited}
 
--- all rows, where `programs`, `trace` and `report` are what was read
-abbrev pub checksOf : Read (List Program) → Read (List Event) → Read Report → List Check
-checksOf programs trace report =
+-- all rows, from contents at the start, where `programs`, `trace` and `report` are what was read
+abbrev pub checksOf : (opening : ℕ → Content) → Read (List Program) → Read (List Event) → Read Report → List Check
+checksOf opening programs trace report =
     let table = contents [] programs in
     programChecks programs
-    ++ (check 3 (badLine trace) ∷ from4 (machineOf table) atStart (known table) (contents [] trace) report)
+    ++ (check 3 (badLine trace) ∷ from4 (machineOf table) opening (known table) (contents [] trace) report)
 
 -- a count as it is shown with a verdict, which is 0 on a refusal
 abbrev pub shown : (verdict n : ℕ) → ℕ
@@ -41,12 +42,12 @@ audited v requests operations =
       rest = n % 100;
     }
 
-abbrev pub auditedOf : Read (List Program) → Read (List Event) → Read Report → Audited
-auditedOf programs trace report =
+abbrev pub auditedOf : (opening : ℕ → Content) → Read (List Program) → Read (List Event) → Read Report → Audited
+auditedOf opening programs trace report =
     audited
-    (firstFault (checksOf programs trace report))
+    (firstFault (checksOf opening programs trace report))
     (count isRequest (contents [] trace))
     (length (contents noLines report .log))
 
 unfoldable pub auditOf : (programs trace report : List ℕ) → Audited
-auditOf programs trace report = auditedOf (readPrograms programs) (readTrace trace) (readReport report)
+auditOf programs trace report = auditedOf atStart (readPrograms programs) (readTrace trace) (readReport report)

@@ -7,13 +7,12 @@ use Rattle.model.specs.Batch.{Node, batchOf}
 use Rattle.model.specs.ByRule.{itemOf, ByRule}
 use Rattle.model.specs.PlainRun.{Item}
 use Rattle.machine.specs.Instance.{machineOf}
-use Rattle.machine.specs.Objects.{atStart}
-use Rattle.verifier.specs.Readings.{Readings}
+use Rattle.verifier.specs.Readings.{Readings, opening}
 
 pub record OrderRead (programs trace report : List ℕ) (order : List Item) : Type 0 where
   pub texts : Readings programs trace report
   -- demand 3 allows it
-  pub allowed : Allowed (machineOf (texts .table)) atStart (batchOf (texts .events) (texts .lines))
+  pub allowed : Allowed (machineOf (texts .table)) (opening texts) (batchOf (texts .events) (texts .lines))
   pub allows : allowed .order ≡ order
   -- it has every trace event and every operation once, each as it is next by the rule,
   pub items : List Node

@@ -9,6 +9,7 @@ use Rattle.text.specs.Text.{readable}
 use Rattle.text.specs.Trace.{readTrace}
 use Rattle.text.specs.declared.programs.Program.{Program}
 use Rattle.text.specs.declared.trace.Event.{Event}
+use Rattle.machine.specs.Objects.{Content, atStart}
 use Rattle.machine.specs.Rules.{row2}
 
 pub record Readings (programs trace report : List ℕ) : Type 0 where
@@ -19,3 +20,7 @@ pub record Readings (programs trace report : List ℕ) : Type 0 where
   pub lines : Report
   pub linesRead : readReport report ≡ readable lines
   pub rules : row2 table ≡ none
+
+-- what the objects hold at the start
+abbrev pub opening : {programs trace report : List ℕ} → Readings programs trace report → ℕ → Content
+opening x = atStart

@@ -7,11 +7,13 @@ use mathlib.Core.Option.{none}
 use mathlib.Core.Path.{_≡_}
 use lib.Dec.{eqb, ltb}
 use lib.ListN.{length, getD}
+use Rattle.basics.specs.Count.{count}
+use Rattle.basics.specs.Firsts.{firsts}
 use Rattle.lines.specs.declared.writer.Put.the-variants.{Wrote}
+use Rattle.text.specs.Formats.{mostEntries, mostOfs, mostRids}
 use Rattle.text.specs.Held.{eventAt, entryAt, reportOf}
 use Rattle.text.specs.Report.{Report, noLines, readReport}
-use Rattle.text.specs.Rows.{firsts}
-use Rattle.text.specs.Text.{Read, readable, count}
+use Rattle.text.specs.Text.{Read, readable}
 use Rattle.text.specs.Trace.{isRequest}
 use Rattle.text.specs.declared.programs.Program.{Program}
 use Rattle.text.specs.declared.report.Of.{Of}
@@ -24,10 +26,11 @@ use Rattle.model.specs.Batch.{Batch, named, countOf, batchOf}
 use Rattle.model.specs.Checks.{firstFault, contents}
 use Rattle.machine.specs.Instance.{machineOf}
 use Rattle.text.specs.Programs.{known}
-use Rattle.machine.specs.Objects.{atStart}
+use Rattle.machine.specs.Objects.{Content}
 use Rattle.model.specs.ByRule.{itemOf}
 use Rattle.model.specs.PlainRun.{Item}
-use Rattle.replay.specs.Judges.{nodeAt, OrdersIn}
+use Rattle.replay.specs.Arrays.{Arrays, arrays, within, nodeAt}
+use Rattle.replay.specs.Judges.{Orders}
 use Rattle.verifier.specs.Faults.{audited}
 use Rattle.verifier.specs.declared.Audited.{Audited}
 use Rattle.verifier.specs.declared.audits.Checked.{Checked}
@@ -65,12 +68,16 @@ beyond ofs r k = not (named ofs r) || (eqb k 0 || ltb (countOf ofs r) k)
 
 -- a claim in one number
 abbrev pub packed : (rid num : ℕ) → ℕ
-packed r k = r % 65536 * 512 + k % 512
+packed r k = r % mostRids * 512 + k % 512
 
 -- the claims of the first n log lines stand in a column
 pub record Packed (logs : List ℕ) (n : ℕ) (column : List ℕ) : Type 0 where
-  pub few : n ≤ 1024
+  pub few : n ≤ mostEntries
   pub claim : (i : ℕ) → i < n → getD column i 0 ≡ packed (entryAt logs i .rid) (entryAt logs i .num)
+
+-- claims are looked through block by block
+abbrev pub claimBlock : ℕ
+claimBlock = 16
 
 -- whether p is one of n numbers of a column, from j on
 abbrev pub occurs : (column : List ℕ) (p j n : ℕ) → Bool
@@ -93,15 +100,21 @@ refusal verdict line = record { verdict = verdict; line = line; requests = 0; op
 abbrev pub eventsIn : List ℕ → ℕ → List Event
 eventsIn events t = firsts (eventAt events) t
 
--- the audit from row 6 on, and from row 4 on
-abbrev pub auditedReport : List Program → List Event → Report → Audited
-auditedReport table events lines =
-    audited (firstFault (from6 (machineOf table) atStart (batchOf events lines))) (count isRequest events) (length (lines .log))
+abbrev pub traceIn : Arrays → List Event
+traceIn a = eventsIn (a .events) (a .t)
 
-abbrev pub auditedTrace : List Program → List Event → Read Report → Audited
-auditedTrace table events report =
+abbrev pub linesIn : Arrays → Report
+linesIn a = reportOf (a .ofs) (a .m) (a .logs) (a .n)
+
+-- the audit from row 6 on, and from row 4 on
+abbrev pub auditedReport : (opening : ℕ → Content) → List Program → List Event → Report → Audited
+auditedReport opening table events lines =
+    audited (firstFault (from6 (machineOf table) opening (batchOf events lines))) (count isRequest events) (length (lines .log))
+
+abbrev pub auditedTrace : (opening : ℕ → Content) → List Program → List Event → Read Report → Audited
+auditedTrace opening table events report =
     audited
-    (firstFault (from4 (machineOf table) atStart (known table) events report))
+    (firstFault (from4 (machineOf table) opening (known table) events report))
     (count isRequest events)
     (length (contents noLines report .log))
 
@@ -111,26 +124,29 @@ pub record Unbroken (events : List Event) (lines : Report) : Type 0 where
   pub row6-none : row6 (batchOf events lines) ≡ none
   pub row7-none : row7 (batchOf events lines) ≡ none
 
--- rows 6 and 7: a refusal, which is that of any programs, or the counts
-abbrev pub ReportChecked : List Event → (ofs : List ℕ) (m : ℕ) (logs : List ℕ) (n : ℕ) → Checked → Type 0
-ReportChecked events ofs m logs n (Refused row line) =
-    (row ≢ 0) × ((table : List Program) → refusal row line ≡ auditedReport table events (reportOf ofs m logs n))
-ReportChecked events ofs m logs n (Counts p q) = (p ≡ m) × (q ≡ n) × Unbroken events (reportOf ofs m logs n)
+-- rows 6 and 7: a refusal, which is that of any programs and any contents at the start, or the counts
+abbrev pub ReportChecked : Arrays → Checked → Type 0
+ReportChecked a (Refused row line) =
+    (row ≢ 0)
+    × ((opening : ℕ → Content) (table : List Program) → refusal row line ≡ auditedReport opening table (traceIn a) (linesIn a))
+ReportChecked a (Counts p q) = (p ≡ a .m) × (q ≡ a .n) × Unbroken (traceIn a) (linesIn a)
 
 -- a report that was read, where no row from 4 to 7 holds
-pub record BatchHeld (k : ℕ) (events : List Event) (report ofs : List ℕ) (m : ℕ) (logs : List ℕ) (n : ℕ) : Type 0 where
-  pub lines4 : row4 (λ prog. ltb prog k) events ≡ none
-  pub answered4 : row4Open events ≡ none
-  pub read : readReport report ≡ readable (reportOf ofs m logs n)
-  pub fewOfs : m ≤ 64
-  pub fewEntries : n ≤ 1024
-  pub unbroken : Unbroken events (reportOf ofs m logs n)
+pub record BatchHeld (k : ℕ) (report : List ℕ) (a : Arrays) : Type 0 where
+  pub lines4 : row4 (λ prog. ltb prog k) (traceIn a) ≡ none
+  pub answered4 : row4Open (traceIn a) ≡ none
+  pub read : readReport report ≡ readable (linesIn a)
+  pub fewOfs : a .m ≤ mostOfs
+  pub fewEntries : a .n ≤ mostEntries
+  pub unbroken : Unbroken (traceIn a) (linesIn a)
 
 -- rows 4 to 7: a refusal, which is that of any k programs, or a batch that stands in the arrays
-abbrev pub BatchChecked : (k : ℕ) → List Event → (report ofs logs : List ℕ) → Checked → Type 0
-BatchChecked k events report ofs logs (Refused row line) =
-    (row ≢ 0) × ((table : List Program) → length table ≡ k → refusal row line ≡ auditedTrace table events (readReport report))
-BatchChecked k events report ofs logs (Counts m n) = BatchHeld k events report ofs m logs n
+abbrev pub BatchChecked : (k : ℕ) (events : List ℕ) (t : ℕ) (report ofs logs : List ℕ) → Checked → Type 0
+BatchChecked k events t report ofs logs (Refused row line) =
+    (row ≢ 0)
+    × ((opening : ℕ → Content) (table : List Program) → length table ≡ k →
+    refusal row line ≡ auditedTrace opening table (eventsIn events t) (readReport report))
+BatchChecked k events t report ofs logs (Counts m n) = BatchHeld k report (arrays events t ofs m logs n)
 
 -- ── the order ──
 -- the items at the first k places of an array, of a batch with n log lines
@@ -138,9 +154,9 @@ abbrev pub itemsIn : (events logs : List ℕ) (n : ℕ) (order : List ℕ) (k : 
 itemsIn events logs n order k = map itemOf (firsts (λ i. nodeAt events logs n (getD order i 0)) k)
 
 -- such items are the order of the batch in the arrays: as many as it has, and those at any places that order it
-pub record OrderIs (events : List ℕ) (t : ℕ) (ofs : List ℕ) (m : ℕ) (logs : List ℕ) (n : ℕ) (items : List Item) : Type 0 where
-  pub all : length items ≡ n + t
-  pub placed : (order : List ℕ) → OrdersIn events t ofs m logs n order → itemsIn events logs n order (n + t) ≡ items
+pub record OrderIs (a : Arrays) (items : List Item) : Type 0 where
+  pub all : length items ≡ a .n + a .t
+  pub placed : (order : List ℕ) → Orders (within a) order → itemsIn (a .events) (a .logs) (a .n) order (a .n + a .t) ≡ items
 
 abbrev pub noOrder : Audited → Ordered
 noOrder a = record { audited = a; order = Wrote 0 }

@@ -8,12 +8,19 @@ use crate::report_rows::row_6;
 use crate::report_rows::row_7;
 use crate::trace_rows::row_4;
 use crate::trace_rows::row_4_open;
+use cells::BUCKETS;
+use cells::CELL_ROWS;
 use lines::Put;
+use machine::REGISTERS;
 use machine::Ruling;
 use machine::check_rules;
 use replay::Fault;
 use replay::judge;
+use text::ENTRIES;
+use text::ENTRY_ROWS;
+use text::EVENT_ROWS;
 use text::Lines;
+use text::OF_ROWS;
 use text::ReportLines;
 use text::read_programs;
 use text::read_report;
@@ -23,12 +30,15 @@ ghost use mathlib.Core.Logic.{_↔_};
 ghost use Prim.Native.Nat.{_≤_};
 ghost use lib.ListN.{length};
 ghost use Rattle.lines.specs.Put.{PutIs};
+ghost use Rattle.text.specs.Formats.{mostEntries, mostOfs};
+ghost use Rattle.text.specs.Held.{entryRoom, ofRoom};
 ghost use Rattle.model.specs.Checks.{verdict};
 ghost use Rattle.verifier.specs.Accepts.{Accepts};
 ghost use Rattle.verifier.specs.Faults.{shown, audited, auditOf};
 ghost use Rattle.verifier.specs.Order.{orderOf, orderNumbers};
 ghost use Rattle.verifier.specs.OrderRead.{OrderRead};
-ghost use Rattle.verifier.specs.Steps.{refusal, eventsIn, ReportChecked, BatchChecked, noOrder};
+ghost use Rattle.replay.specs.Arrays.{arrays};
+ghost use Rattle.verifier.specs.Steps.{refusal, ReportChecked, BatchChecked, noOrder};
 
 // A refusal, whose counts are 0.
 fn refused(verdict: u64, line: usize) -> Audited
@@ -74,15 +84,15 @@ pub enum Checked {
 
 // Rows 6 and 7.
 fn check_report(
-    events: &[u64; 640],
+    events: &[u64; EVENT_ROWS],
     t: usize,
-    ofs: &[u64; 192],
+    ofs: &[u64; OF_ROWS],
     m: usize,
-    logs: &[u64; 6144],
+    logs: &[u64; ENTRY_ROWS],
     n: usize,
 ) -> Checked
-    requires { ⌜ (m ≤ 64) × (n ≤ 1024) ⌝ }
-    ensures { λ r. ⌜ ReportChecked (eventsIn (now (events .entry)) t) (now (ofs .entry)) m (now (logs .entry)) n r ⌝ }
+    requires { ⌜ (m ≤ mostOfs) × (n ≤ mostEntries) ⌝ }
+    ensures { λ r. ⌜ ReportChecked (arrays (now (events .entry)) t (now (ofs .entry)) m (now (logs .entry)) n) r ⌝ }
 {
     match row_6(events, t, ofs, m) {
         Ruling::Broken(line) => {
@@ -90,7 +100,7 @@ fn check_report(
         }
         Ruling::Kept => {}
     }
-    let mut column = [0u32; 1024];
+    let mut column = [0u32; ENTRIES];
     pack_claims(logs, n, &mut column);
     match row_7(ofs, m, logs, n, &column) {
         Ruling::Broken(line) => {
@@ -104,14 +114,14 @@ fn check_report(
 // Rows 4 to 7, where so many programs are known. The report goes into ofs and logs.
 fn check_batch(
     programs: usize,
-    events: &[u64; 640],
+    events: &[u64; EVENT_ROWS],
     t: usize,
     report: &[u8],
-    ofs: &mut [u64; 192],
-    logs: &mut [u64; 6144],
+    ofs: &mut [u64; OF_ROWS],
+    logs: &mut [u64; ENTRY_ROWS],
 ) -> Checked
-    requires { ⌜ (length (now ofs) ≡ 192) × (length (now logs) ≡ 6144) ⌝ }
-    ensures { λ r. ⌜ BatchChecked programs (eventsIn (now (events .entry)) t) (now (report .entry)) (now (ofs .exit)) (now (logs .exit)) r ⌝ }
+    requires { ⌜ (length (now ofs) ≡ ofRoom) × (length (now logs) ≡ entryRoom) ⌝ }
+    ensures { λ r. ⌜ BatchChecked programs (now (events .entry)) t (now (report .entry)) (now (ofs .exit)) (now (logs .exit)) r ⌝ }
 {
     match row_4(events, t, programs) {
         Ruling::Broken(line) => {
@@ -163,20 +173,36 @@ pub fn audit_order(programs: &[u8], trace: &[u8], report: &[u8], out: &mut [u64]
         }
         Ruling::Kept => {}
     }
-    let mut events = [0u64; 640];
+    let mut events = [0u64; EVENT_ROWS];
     match read_trace(trace, &mut events) {
         Lines::Unreadable(line) => {
             return no_order(refused(3, line));
         }
         Lines::Readable(t) => {
-            let mut ofs = [0u64; 192];
-            let mut logs = [0u64; 6144];
+            let mut ofs = [0u64; OF_ROWS];
+            let mut logs = [0u64; ENTRY_ROWS];
             match check_batch(ps.n, &events, t, report, &mut ofs, &mut logs) {
                 Checked::Refused(row, line) => {
                     return no_order(refused(row, line));
                 }
                 Checked::Counts(m, n) => {
-                    let audited = result(judge(ps, &events, t, &ofs, m, &logs, n), m, n);
+                    let mut registers = [0u64; REGISTERS];
+                    let mut cells = [0u64; CELL_ROWS];
+                    let mut buckets = [0u16; BUCKETS];
+                    let fault = judge(
+                        ps,
+                        &events,
+                        t,
+                        &ofs,
+                        m,
+                        &logs,
+                        n,
+                        &mut registers,
+                        &mut cells,
+                        &mut buckets,
+                        0,
+                    );
+                    let audited = result(fault, m, n);
                     if audited.verdict != 0 {
                         return no_order(audited);
                     }

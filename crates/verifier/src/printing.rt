@@ -6,6 +6,9 @@ use lines::Put;
 use lines::append_number_line;
 use lines::numbers_width;
 use lines::written;
+use text::ENTRIES;
+use text::EVENTS;
+use text::ITEM_ROWS;
 use writing::order_width;
 use writing::put_order;
 use writing::put_verdict;
@@ -14,8 +17,12 @@ ghost use mathlib.Core.List.{_++_};
 ghost use Prim.Native.Nat.{_≤_, min};
 ghost use lib.ListN.{length};
 ghost use Rattle.lines.specs.Put.{PutIs};
+ghost use Rattle.text.specs.Held.{mostItems};
 ghost use Rattle.writing.specs.Order.{itemsText};
 ghost use Rattle.verifier.specs.Printed.{auditedText, printedText, mostAudited, mostPrinted};
+
+// As much as is ever printed (`mostPrinted`): the verdict lines, `op=65535,256` for each log line, and `event=128` for each event.
+pub const PRINTED: usize = 171 + 13 * ENTRIES + 10 * EVENTS;
 
 // How long the verdict lines are; their words have 45 bytes.
 fn audited_width(a: Audited) -> usize
@@ -53,8 +60,8 @@ fn put_audited(a: Audited, out: &mut [u8]) -> Put
 }
 
 // Writes the verdict lines and the first n items of an order to the front of out, or nothing where out is too short.
-fn put_printed(a: Audited, items: &[u64; 2304], n: usize, out: &mut [u8]) -> Put
-    ensures { λ r. ⌜ PutIs (auditedText a ++ itemsText (now (items .entry)) (min n 1152)) (now (out .entry)) (now (out .exit)) r ⌝ }
+fn put_printed(a: Audited, items: &[u64; ITEM_ROWS], n: usize, out: &mut [u8]) -> Put
+    ensures { λ r. ⌜ PutIs (auditedText a ++ itemsText (now (items .entry)) (min n mostItems)) (now (out .entry)) (now (out .exit)) r ⌝ }
     ensures { λ _. ⌜ length (auditedText a) ≤ mostAudited ⌝ }
 {
     if out.len() < audited_width(a) + order_width(items, n) {
@@ -73,7 +80,7 @@ pub fn audit_text(programs: &[u8], trace: &[u8], report: &[u8], out: &mut [u8]) 
         (now (out .entry)) (now (out .exit)) r ⌝ }
     ensures most { λ _. ⌜ length (printedText (now (programs .entry)) (now (trace .entry)) (now (report .entry))) ≤ mostPrinted ⌝ }
 {
-    let mut items = [0u64; 2304];
+    let mut items = [0u64; ITEM_ROWS];
     let r = audit_order(programs, trace, report, &mut items);
     let order = r.order;
     put_printed(r.audited, &items, written(order) / 2, out)

@@ -1,6 +1,12 @@
 // Rows 6 and 7, over a trace and a report that were read.
 use machine::Ruling;
+use text::ENTRIES;
+use text::ENTRY_ROWS;
+use text::EVENT_ROWS;
 use text::Event;
+use text::OF_ROWS;
+use text::RIDS;
+use text::SLOT_BUCKETS;
 use text::entry_at;
 use text::event_at;
 use text::first_slots;
@@ -9,18 +15,19 @@ use text::slot_of;
 ghost use mathlib.Core.Path.{_≡_};
 ghost use Prim.Native.Nat.{_+_, _<_, _≤_};
 ghost use lib.ListN.{length, getD};
+ghost use Rattle.basics.specs.Firsts.{firsts};
+ghost use Rattle.text.specs.Formats.{mostEntries, mostOfs};
 ghost use Rattle.text.specs.Held.{eventAt, ofAt, entryAt};
-ghost use Rattle.text.specs.Rows.{firsts};
 ghost use Rattle.text.specs.Slots.{Slots};
 ghost use Rattle.model.specs.Requests.{row6From};
 ghost use Rattle.model.specs.Claims.{row7};
 ghost use Rattle.model.specs.Batch.{claims};
 ghost use Rattle.machine.specs.Rules.{brokenLine};
-ghost use Rattle.verifier.specs.Steps.{beyond, packed, Packed, occurs, Without, reported};
+ghost use Rattle.verifier.specs.Steps.{beyond, packed, Packed, occurs, Without, reported, claimBlock};
 
 // Row 6: `of` lines are not one per request in arrival order.
-pub(crate) fn row_6(events: &[u64; 640], t: usize, ofs: &[u64; 192], m: usize) -> Ruling
-    requires { ⌜ m ≤ 64 ⌝ }
+pub(crate) fn row_6(events: &[u64; EVENT_ROWS], t: usize, ofs: &[u64; OF_ROWS], m: usize) -> Ruling
+    requires { ⌜ m ≤ mostOfs ⌝ }
     ensures { λ r. ⌜ brokenLine r ≡ row6From 1 (firsts (eventAt (now (events .entry))) t) (firsts (ofAt (now (ofs .entry))) m) ⌝ }
 {
     let mut i: usize = 0;
@@ -62,7 +69,7 @@ pub(crate) fn row_6(events: &[u64; 640], t: usize, ofs: &[u64; 192], m: usize) -
 }
 
 // Whether no count allows operation num of request rid: the rid is unknown, or num is 0 or above its count.
-fn outside(ofs: &[u64; 192], m: usize, heads: &[u8; 256], rid: u64, num: u64) -> bool
+fn outside(ofs: &[u64; OF_ROWS], m: usize, heads: &[u8; SLOT_BUCKETS], rid: u64, num: u64) -> bool
     requires { ⌜ Slots (now ofs) m (now heads) ⌝ }
     ensures { λ r. ⌜ r ≡ beyond (firsts (ofAt (now (ofs .entry))) m) rid num ⌝ }
 {
@@ -81,12 +88,12 @@ fn outside(ofs: &[u64; 192], m: usize, heads: &[u8; 256], rid: u64, num: u64) ->
 fn pack(rid: u64, num: u64) -> u32
     ensures { λ r. ⌜ r ≡ packed rid num ⌝ }
 {
-    (rid % 65536 * 512 + num % 512) as u32
+    (rid % RIDS * 512 + num % 512) as u32
 }
 
 // The claims of the first n log lines.
-pub(crate) fn pack_claims(logs: &[u64; 6144], n: usize, column: &mut [u32; 1024])
-    requires { ⌜ (n ≤ 1024) × (length (now column) ≡ 1024) ⌝ }
+pub(crate) fn pack_claims(logs: &[u64; ENTRY_ROWS], n: usize, column: &mut [u32; ENTRIES])
+    requires { ⌜ (n ≤ mostEntries) × (length (now column) ≡ mostEntries) ⌝ }
     ensures { λ _. ⌜ Packed (now (logs .entry)) n (now (column .exit)) ⌝ }
 {
     let mut i: usize = 0;
@@ -99,8 +106,15 @@ pub(crate) fn pack_claims(logs: &[u64; 6144], n: usize, column: &mut [u32; 1024]
 }
 
 // Whether log line j claims operation num of request rid, where p is that claim packed.
-fn claims_at(logs: &[u64; 6144], column: &[u32; 1024], j: usize, p: u32, rid: u64, num: u64) -> bool
-    requires { ⌜ j < 1024 ⌝ }
+fn claims_at(
+    logs: &[u64; ENTRY_ROWS],
+    column: &[u32; ENTRIES],
+    j: usize,
+    p: u32,
+    rid: u64,
+    num: u64,
+) -> bool
+    requires { ⌜ j < mostEntries ⌝ }
     requires { ⌜ getD (now column) j 0 ≡ packed (entryAt (now logs) j .rid) (entryAt (now logs) j .num) ⌝ }
     requires { ⌜ p ≡ packed rid num ⌝ }
     ensures { λ r. ⌜ r ≡ claims rid num (entryAt (now (logs .entry)) j) ⌝ }
@@ -112,36 +126,39 @@ fn claims_at(logs: &[u64; 6144], column: &[u32; 1024], j: usize, p: u32, rid: u6
     if l.rid == rid { l.num == num } else { false }
 }
 
-// Whether one of the 16 claims from j on is p. No branch parts them, so that four are compared at a time.
-fn among(column: &[u32; 1024], j: usize, p: u32) -> bool
-    requires { ⌜ j + 16 ≤ 1024 ⌝ }
-    ensures { λ r. ⌜ r ≡ occurs (now (column .entry)) p j 16 ⌝ }
+// Claims are looked through block by block.
+const CLAIM_BLOCK: usize = 16;
+
+// Whether one of the block of claims from j on is p. No branch parts them, so that four are compared at a time.
+fn among(column: &[u32; ENTRIES], j: usize, p: u32) -> bool
+    requires { ⌜ j + claimBlock ≤ mostEntries ⌝ }
+    ensures { λ r. ⌜ r ≡ occurs (now (column .entry)) p j claimBlock ⌝ }
 {
     let mut found = false;
     let mut k: usize = 0;
-    while k < 16 {
+    while k < CLAIM_BLOCK {
         found = (column[j + k] == p) | found;
         k += 1;
     }
     found
 }
 
-// How many of the first i claims are passed by blocks of 16 of which none is p. The last block may lie over the one before.
-fn passed(column: &[u32; 1024], i: usize, p: u32) -> usize
-    requires { ⌜ i ≤ 1024 ⌝ }
+// How many of the first i claims are passed by blocks of which none is p. The last block may lie over the one before.
+fn passed(column: &[u32; ENTRIES], i: usize, p: u32) -> usize
+    requires { ⌜ i ≤ mostEntries ⌝ }
     ensures { λ r. ⌜ Without (now (column .entry)) p i r ⌝ }
 {
     let mut j: usize = 0;
-    while 16 <= i - j {
+    while CLAIM_BLOCK <= i - j {
         if among(column, j, p) {
             return j;
         }
-        j += 16;
+        j += CLAIM_BLOCK;
     }
-    if i < 16 {
+    if i < CLAIM_BLOCK {
         return j;
     }
-    if among(column, i - 16, p) {
+    if among(column, i - CLAIM_BLOCK, p) {
         return j;
     }
     i
@@ -149,13 +166,13 @@ fn passed(column: &[u32; 1024], i: usize, p: u32) -> usize
 
 // Row 7: log line's rid unknown, num 0 or above count, or claimed before.
 pub(crate) fn row_7(
-    ofs: &[u64; 192],
+    ofs: &[u64; OF_ROWS],
     m: usize,
-    logs: &[u64; 6144],
+    logs: &[u64; ENTRY_ROWS],
     n: usize,
-    column: &[u32; 1024],
+    column: &[u32; ENTRIES],
 ) -> Ruling
-    requires { ⌜ m ≤ 64 ⌝ }
+    requires { ⌜ m ≤ mostOfs ⌝ }
     requires { ⌜ Packed (now logs) n (now column) ⌝ }
     ensures { λ r. ⌜ brokenLine r ≡ row7 (reported (now (ofs .entry)) m (now (logs .entry)) n) ⌝ }
 {

@@ -1,11 +1,12 @@
 // Row 4, over the events of a trace that was read.
 use machine::Ruling;
+use text::EVENT_ROWS;
 use text::Event;
 use text::event_at;
 ghost use mathlib.Core.Path.{_≡_};
 ghost use lib.Dec.{ltb};
+ghost use Rattle.basics.specs.Firsts.{firsts};
 ghost use Rattle.text.specs.Held.{eventAt};
-ghost use Rattle.text.specs.Rows.{firsts};
 ghost use Rattle.model.specs.Requests.{row4, row4Open};
 ghost use Rattle.machine.specs.Rules.{brokenLine};
 ghost use Rattle.verifier.specs.Steps.{alike, hasLike, mayStand, settles};
@@ -58,7 +59,7 @@ fn like(d: Event, e: Event) -> bool
 }
 
 // Whether one of the first n events is like e.
-fn has_like(events: &[u64; 640], n: usize, e: Event) -> bool
+fn has_like(events: &[u64; EVENT_ROWS], n: usize, e: Event) -> bool
     ensures { λ r. ⌜ r ≡ hasLike e (firsts (eventAt (now (events .entry))) n) ⌝ }
 {
     let mut j: usize = 0;
@@ -72,7 +73,7 @@ fn has_like(events: &[u64; 640], n: usize, e: Event) -> bool
 }
 
 // Whether e may stand behind the first i events, unless one of them is like it: a request of a known program, or a response to a request.
-fn may_stand(events: &[u64; 640], i: usize, e: Event, programs: usize) -> bool
+fn may_stand(events: &[u64; EVENT_ROWS], i: usize, e: Event, programs: usize) -> bool
     ensures { λ r. ⌜ r ≡ mayStand (λ prog. ltb prog programs) (firsts (eventAt (now (events .entry))) i) e ⌝ }
 {
     match e {
@@ -100,7 +101,7 @@ fn may_stand(events: &[u64; 640], i: usize, e: Event, programs: usize) -> bool
 }
 
 // Row 4 line by line: rid used twice, unknown program, response with no open request.
-pub(crate) fn row_4(events: &[u64; 640], t: usize, programs: usize) -> Ruling
+pub(crate) fn row_4(events: &[u64; EVENT_ROWS], t: usize, programs: usize) -> Ruling
     ensures { λ r. ⌜ brokenLine r ≡ row4 (λ prog. ltb prog programs) (firsts (eventAt (now (events .entry))) t) ⌝ }
 {
     let mut i: usize = 0;
@@ -126,7 +127,7 @@ pub(crate) fn row_4(events: &[u64; 640], t: usize, programs: usize) -> Ruling
 }
 
 // Whether an event asks for no response, or has it among the first n.
-fn settled(events: &[u64; 640], n: usize, e: Event) -> bool
+fn settled(events: &[u64; EVENT_ROWS], n: usize, e: Event) -> bool
     ensures { λ r. ⌜ r ≡ settles (firsts (eventAt (now (events .entry))) n) e ⌝ }
 {
     match e {
@@ -153,7 +154,7 @@ fn settled(events: &[u64; 640], n: usize, e: Event) -> bool
 }
 
 // Row 4 behind its lines: request never answered.
-pub(crate) fn row_4_open(events: &[u64; 640], t: usize) -> Ruling
+pub(crate) fn row_4_open(events: &[u64; EVENT_ROWS], t: usize) -> Ruling
     ensures { λ r. ⌜ brokenLine r ≡ row4Open (firsts (eventAt (now (events .entry))) t) ⌝ }
 {
     let mut i: usize = 0;

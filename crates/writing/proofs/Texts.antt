@@ -6,6 +6,7 @@ use native.Mathlib.Omega.{arith}
 use native.Mathlib.Numerals.{add-one}
 use native.Mathlib.Nat.{mul-suc}
 use lib.ListN.{length, take, drop, length-append}
+use Rattle.basics.specs.Firsts.{firsts}
 use Rattle.lines.specs.Put.{writtenOf, front, PutIs}
 use Rattle.lines.specs.declared.writer.Put.{Put}
 use Rattle.lines.proofs.Writing.{
@@ -19,7 +20,6 @@ use Rattle.lines.proofs.Writing.{
   writing-length,
 }
 use Rattle.text.specs.Written.{linesText}
-use Rattle.text.specs.Rows.{firsts}
 use Rattle.writing.specs.Steps.{textsFrom, texts}
 
 module _ (f : ℕ → List ℕ) where

@@ -4,6 +4,7 @@ use mathlib.Core.List.{List}
 use mathlib.Core.Path.{_≡_, refl, sym, _∙_, ap, subst}
 use native.Mathlib.Omega.{arith}
 use lib.ListN.{length, take}
+use Rattle.basics.specs.Firsts.{firsts}
 use Rattle.lines.specs.LineText.{numbersText, lineText}
 use Rattle.lines.specs.Put.{PutIs}
 use Rattle.lines.specs.declared.writer.Fields.{Fields}
@@ -11,7 +12,6 @@ use Rattle.lines.specs.declared.writer.Put.{Put}
 use Rattle.lines.proofs.LineTexts.{line-length}
 use Rattle.text.specs.Formats.{requestLine, responseLine}
 use Rattle.text.specs.Written.{eventText, traceText}
-use Rattle.text.specs.Rows.{firsts}
 use Rattle.text.specs.Held.{eventAt}
 use Rattle.writing.specs.Steps.{texts, eventLine, eventFields}
 use Rattle.text.specs.declared.trace.Event.{Event}

@@ -5,9 +5,9 @@ use mathlib.Core.Bool.{cond}
 use mathlib.Core.List.{List, [], _∷_}
 use lib.Dec.{eqb}
 use lib.ListN.{getD}
+use Rattle.basics.specs.Firsts.{firsts}
 use Rattle.lines.specs.Bytes.{bytes}
 use Rattle.lines.specs.LineText.{lineText}
-use Rattle.text.specs.Rows.{firsts}
 use Rattle.text.specs.Written.{linesText}
 use Rattle.writing.specs.declared.orders.Item.{Item}
 

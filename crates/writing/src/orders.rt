@@ -1,10 +1,12 @@
 // Writing an order, which stands in an array as two numbers for each item.
 ghost use mathlib.Core.Path.{_≡_};
-ghost use Prim.Native.Nat.{_≤_, _<_, min};
+ghost use Prim.Native.Nat.{_≤_, _<_, min, _*_};
 ghost use lib.ListN.{length};
 ghost use Rattle.lines.specs.Put.{front, PutIs};
+ghost use Rattle.text.specs.Held.{mostItems};
 ghost use Rattle.writing.specs.Order.{itemText, itemAt, itemsText};
 ghost use Rattle.writing.specs.Steps.{texts, itemLine, itemFields};
+use basics::least;
 use lines::Fields;
 use lines::Put;
 use lines::number_width;
@@ -12,6 +14,9 @@ use lines::numbers_width;
 use lines::put_line;
 use lines::put_number_line;
 use lines::written;
+use text::ITEM_ROW;
+use text::ITEM_ROWS;
+use text::ITEMS;
 
 // An item of an order: a trace line and 0, or a request and the number of its operation, which is not 0.
 pub struct Item {
@@ -20,13 +25,13 @@ pub struct Item {
 }
 
 // Item i of an array.
-fn item_at(items: &[u64; 2304], i: usize) -> Item
-    requires { ⌜ i < 1152 ⌝ }
+fn item_at(items: &[u64; ITEM_ROWS], i: usize) -> Item
+    requires { ⌜ i < mostItems ⌝ }
     ensures { λ r. ⌜ r ≡ itemAt (now (items .entry)) i ⌝ }
 {
     Item {
-        id: items[2 * i],
-        num: items[2 * i + 1],
+        id: items[ITEM_ROW * i],
+        num: items[ITEM_ROW * i + 1],
     }
 }
 
@@ -59,16 +64,10 @@ fn put_item_line(out: &mut [u8], x: Item) -> Put
     put_line(out, b"op=", item_fields(x))
 }
 
-fn at_most_1152(n: usize) -> usize
-    ensures { λ r. ⌜ r ≡ min n 1152 ⌝ }
-{
-    if n < 1152 { n } else { 1152 }
-}
-
-fn widths(items: &[u64; 2304], n: usize) -> usize
-    requires { ⌜ n ≤ 1152 ⌝ }
+fn widths(items: &[u64; ITEM_ROWS], n: usize) -> usize
+    requires { ⌜ n ≤ mostItems ⌝ }
     ensures { λ r. ⌜ r ≡ length (texts (itemLine (now (items .entry))) n) ⌝ }
-    ensures { λ r. ⌜ r ≤ 148608 ⌝ }
+    ensures { λ r. ⌜ r ≤ 129 * mostItems ⌝ }
 {
     let mut at: usize = 0;
     let mut i: usize = 0;
@@ -79,8 +78,8 @@ fn widths(items: &[u64; 2304], n: usize) -> usize
     at
 }
 
-fn fill(out: &mut [u8], items: &[u64; 2304], n: usize) -> usize
-    requires { ⌜ n ≤ 1152 ⌝ }
+fn fill(out: &mut [u8], items: &[u64; ITEM_ROWS], n: usize) -> usize
+    requires { ⌜ n ≤ mostItems ⌝ }
     requires { ⌜ length (texts (itemLine (now items)) n) ≤ length (now out) ⌝ }
     ensures { λ r. ⌜ r ≡ length (texts (itemLine (now (items .entry))) n) ⌝ }
     ensures { λ _. ⌜ now (out .exit) ≡ front (texts (itemLine (now (items .entry))) n) (now (out .entry)) ⌝ }
@@ -95,19 +94,19 @@ fn fill(out: &mut [u8], items: &[u64; 2304], n: usize) -> usize
     at
 }
 
-// How long the lines of the first n items are, 1,152 at most.
-pub fn order_width(items: &[u64; 2304], n: usize) -> usize
-    ensures { λ r. ⌜ r ≡ length (itemsText (now (items .entry)) (min n 1152)) ⌝ }
-    ensures { λ r. ⌜ r ≤ 148608 ⌝ }
+// How long the lines of the first n items are, ITEMS at most.
+pub fn order_width(items: &[u64; ITEM_ROWS], n: usize) -> usize
+    ensures { λ r. ⌜ r ≡ length (itemsText (now (items .entry)) (min n mostItems)) ⌝ }
+    ensures { λ r. ⌜ r ≤ 129 * mostItems ⌝ }
 {
-    widths(items, at_most_1152(n))
+    widths(items, least(n, ITEMS))
 }
 
 // Writes them to the front of out, or nothing where out is too short.
-pub fn put_order(out: &mut [u8], items: &[u64; 2304], n: usize) -> Put
-    ensures { λ r. ⌜ PutIs (itemsText (now (items .entry)) (min n 1152)) (now (out .entry)) (now (out .exit)) r ⌝ }
+pub fn put_order(out: &mut [u8], items: &[u64; ITEM_ROWS], n: usize) -> Put
+    ensures { λ r. ⌜ PutIs (itemsText (now (items .entry)) (min n mostItems)) (now (out .entry)) (now (out .exit)) r ⌝ }
 {
-    let m = at_most_1152(n);
+    let m = least(n, ITEMS);
     if out.len() < widths(items, m) {
         return Put::Short;
     }

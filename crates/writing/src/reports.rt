@@ -3,15 +3,21 @@ ghost use mathlib.Core.Path.{_≡_};
 ghost use Prim.Native.Nat.{_+_, _≤_, min};
 ghost use lib.ListN.{length};
 ghost use Rattle.lines.specs.Put.{front, PutIs};
+ghost use Rattle.text.specs.Formats.{mostEntries, mostOfs};
 ghost use Rattle.text.specs.Written.{reportText};
 ghost use Rattle.text.specs.Held.{reportOf};
 ghost use Rattle.writing.specs.Steps.{texts, reportLine, ofFields, entryFields};
+use basics::least;
 use lines::Fields;
 use lines::Put;
 use lines::numbers_width;
 use lines::put_line;
 use lines::written;
+use text::ENTRIES;
+use text::ENTRY_ROWS;
 use text::Entry;
+use text::OF_ROWS;
+use text::OFS;
 use text::Of;
 use text::entry_at;
 use text::of_at;
@@ -35,7 +41,7 @@ fn entry_fields(l: Entry) -> Fields
 }
 
 // How long line i of a report with m `of` lines is.
-fn line_width(ofs: &[u64; 192], m: usize, logs: &[u64; 6144], i: usize) -> usize
+fn line_width(ofs: &[u64; OF_ROWS], m: usize, logs: &[u64; ENTRY_ROWS], i: usize) -> usize
     ensures { λ r. ⌜ r ≡ length (reportLine (now (ofs .entry)) m (now (logs .entry)) i) ⌝ }
     ensures { λ r. ⌜ r ≤ 130 ⌝ }
 {
@@ -45,7 +51,13 @@ fn line_width(ofs: &[u64; 192], m: usize, logs: &[u64; 6144], i: usize) -> usize
     4 + numbers_width(entry_fields(entry_at(logs, i - m)))
 }
 
-fn put_report_line(out: &mut [u8], ofs: &[u64; 192], m: usize, logs: &[u64; 6144], i: usize) -> Put
+fn put_report_line(
+    out: &mut [u8],
+    ofs: &[u64; OF_ROWS],
+    m: usize,
+    logs: &[u64; ENTRY_ROWS],
+    i: usize,
+) -> Put
     ensures { λ r. ⌜ PutIs (reportLine (now (ofs .entry)) m (now (logs .entry)) i) (now (out .entry)) (now (out .exit)) r ⌝ }
 {
     if i < m {
@@ -54,15 +66,9 @@ fn put_report_line(out: &mut [u8], ofs: &[u64; 192], m: usize, logs: &[u64; 6144
     put_line(out, b"log=", entry_fields(entry_at(logs, i - m)))
 }
 
-fn at_most(n: usize, limit: usize) -> usize
-    ensures { λ r. ⌜ r ≡ min n limit ⌝ }
-{
-    if n < limit { n } else { limit }
-}
-
 // How long the first n lines of a report with m `of` lines are.
-fn widths(ofs: &[u64; 192], m: usize, logs: &[u64; 6144], n: usize) -> usize
-    requires { ⌜ n ≤ 1088 ⌝ }
+fn widths(ofs: &[u64; OF_ROWS], m: usize, logs: &[u64; ENTRY_ROWS], n: usize) -> usize
+    requires { ⌜ n ≤ mostOfs + mostEntries ⌝ }
     ensures { λ r. ⌜ r ≡ length (texts (reportLine (now (ofs .entry)) m (now (logs .entry))) n) ⌝ }
 {
     let mut at: usize = 0;
@@ -74,7 +80,7 @@ fn widths(ofs: &[u64; 192], m: usize, logs: &[u64; 6144], n: usize) -> usize
     at
 }
 
-fn fill(out: &mut [u8], ofs: &[u64; 192], m: usize, logs: &[u64; 6144], n: usize) -> usize
+fn fill(out: &mut [u8], ofs: &[u64; OF_ROWS], m: usize, logs: &[u64; ENTRY_ROWS], n: usize) -> usize
     requires { ⌜ length (texts (reportLine (now ofs) m (now logs)) n) ≤ length (now out) ⌝ }
     ensures { λ r. ⌜ r ≡ length (texts (reportLine (now (ofs .entry)) m (now (logs .entry))) n) ⌝ }
     ensures { λ _. ⌜ now (out .exit) ≡ front (texts (reportLine (now (ofs .entry)) m (now (logs .entry))) n) (now (out .entry)) ⌝ }
@@ -89,21 +95,27 @@ fn fill(out: &mut [u8], ofs: &[u64; 192], m: usize, logs: &[u64; 6144], n: usize
     at
 }
 
-// How long the first m `of` and the first n `log` lines are as a text, 64 and 1,024 at most.
-pub fn report_width(ofs: &[u64; 192], m: usize, logs: &[u64; 6144], n: usize) -> usize
-    ensures { λ r. ⌜ r ≡ length (reportText (reportOf (now (ofs .entry)) (min m 64) (now (logs .entry)) (min n 1024))) ⌝ }
+// How long the first m `of` and the first n `log` lines are as a text, OFS and ENTRIES at most.
+pub fn report_width(ofs: &[u64; OF_ROWS], m: usize, logs: &[u64; ENTRY_ROWS], n: usize) -> usize
+    ensures { λ r. ⌜ r ≡ length (reportText (reportOf (now (ofs .entry)) (min m mostOfs) (now (logs .entry)) (min n mostEntries))) ⌝ }
 {
-    let k = at_most(m, 64);
-    widths(ofs, k, logs, k + at_most(n, 1024))
+    let k = least(m, OFS);
+    widths(ofs, k, logs, k + least(n, ENTRIES))
 }
 
 // Writes them to the front of out, or nothing where out is too short.
-pub fn put_report(out: &mut [u8], ofs: &[u64; 192], m: usize, logs: &[u64; 6144], n: usize) -> Put
-    ensures { λ r. ⌜ PutIs (reportText (reportOf (now (ofs .entry)) (min m 64) (now (logs .entry)) (min n 1024)))
+pub fn put_report(
+    out: &mut [u8],
+    ofs: &[u64; OF_ROWS],
+    m: usize,
+    logs: &[u64; ENTRY_ROWS],
+    n: usize,
+) -> Put
+    ensures { λ r. ⌜ PutIs (reportText (reportOf (now (ofs .entry)) (min m mostOfs) (now (logs .entry)) (min n mostEntries)))
         (now (out .entry)) (now (out .exit)) r ⌝ }
 {
-    let k = at_most(m, 64);
-    let l = k + at_most(n, 1024);
+    let k = least(m, OFS);
+    let l = k + least(n, ENTRIES);
     if out.len() < widths(ofs, k, logs, l) {
         return Put::Short;
     }

@@ -2,16 +2,19 @@
 ghost use mathlib.Core.Path.{_≡_};
 ghost use Prim.Native.Nat.{_≤_, min};
 ghost use lib.ListN.{length};
+ghost use Rattle.basics.specs.Firsts.{firsts};
 ghost use Rattle.lines.specs.Put.{front, PutIs};
 ghost use Rattle.text.specs.Written.{eventText, traceText};
-ghost use Rattle.text.specs.Rows.{firsts};
-ghost use Rattle.text.specs.Held.{eventAt};
+ghost use Rattle.text.specs.Held.{eventAt, mostEvents};
 ghost use Rattle.writing.specs.Steps.{texts, eventLine, eventFields};
+use basics::least;
 use lines::Fields;
 use lines::Put;
 use lines::numbers_width;
 use lines::put_line;
 use lines::written;
+use text::EVENT_ROWS;
+use text::EVENTS;
 use text::Event;
 use text::event_at;
 
@@ -82,14 +85,8 @@ fn put_event_line(out: &mut [u8], e: Event) -> Put
     }
 }
 
-fn at_most_128(n: usize) -> usize
-    ensures { λ r. ⌜ r ≡ min n 128 ⌝ }
-{
-    if n < 128 { n } else { 128 }
-}
-
-fn widths(events: &[u64; 640], n: usize) -> usize
-    requires { ⌜ n ≤ 128 ⌝ }
+fn widths(events: &[u64; EVENT_ROWS], n: usize) -> usize
+    requires { ⌜ n ≤ mostEvents ⌝ }
     ensures { λ r. ⌜ r ≡ length (texts (eventLine (now (events .entry))) n) ⌝ }
 {
     let mut at: usize = 0;
@@ -101,8 +98,8 @@ fn widths(events: &[u64; 640], n: usize) -> usize
     at
 }
 
-fn fill(out: &mut [u8], events: &[u64; 640], n: usize) -> usize
-    requires { ⌜ n ≤ 128 ⌝ }
+fn fill(out: &mut [u8], events: &[u64; EVENT_ROWS], n: usize) -> usize
+    requires { ⌜ n ≤ mostEvents ⌝ }
     requires { ⌜ length (texts (eventLine (now events)) n) ≤ length (now out) ⌝ }
     ensures { λ r. ⌜ r ≡ length (texts (eventLine (now (events .entry))) n) ⌝ }
     ensures { λ _. ⌜ now (out .exit) ≡ front (texts (eventLine (now (events .entry))) n) (now (out .entry)) ⌝ }
@@ -117,18 +114,18 @@ fn fill(out: &mut [u8], events: &[u64; 640], n: usize) -> usize
     at
 }
 
-// How long the first n events are as a text, 128 at most.
-pub fn trace_width(events: &[u64; 640], n: usize) -> usize
-    ensures { λ r. ⌜ r ≡ length (traceText (firsts (eventAt (now (events .entry))) (min n 128))) ⌝ }
+// How long the first n events are as a text, EVENTS at most.
+pub fn trace_width(events: &[u64; EVENT_ROWS], n: usize) -> usize
+    ensures { λ r. ⌜ r ≡ length (traceText (firsts (eventAt (now (events .entry))) (min n mostEvents))) ⌝ }
 {
-    widths(events, at_most_128(n))
+    widths(events, least(n, EVENTS))
 }
 
 // Writes them to the front of out, or nothing where out is too short.
-pub fn put_trace(out: &mut [u8], events: &[u64; 640], n: usize) -> Put
-    ensures { λ r. ⌜ PutIs (traceText (firsts (eventAt (now (events .entry))) (min n 128))) (now (out .entry)) (now (out .exit)) r ⌝ }
+pub fn put_trace(out: &mut [u8], events: &[u64; EVENT_ROWS], n: usize) -> Put
+    ensures { λ r. ⌜ PutIs (traceText (firsts (eventAt (now (events .entry))) (min n mostEvents))) (now (out .entry)) (now (out .exit)) r ⌝ }
 {
-    let m = at_most_128(n);
+    let m = least(n, EVENTS);
     if out.len() < widths(events, m) {
         return Put::Short;
     }

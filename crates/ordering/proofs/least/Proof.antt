@@ -24,7 +24,7 @@ loop-again-2 : tie.Need-loop-again-2 Inv-loop μ-loop
 loop-again-2 c = searching-other _ _ _ _ _ _ _ _ _ (search needs) (search needs) (search needs) _ (search needs) (c .if2 .left)
 
 loop-again-3 : tie.Need-loop-again-3 Inv-loop μ-loop
-loop-again-3 c = searching-past _ _ _ _ _ _ _ _ (c .before .place .result) (search needs) (search needs) (search needs) (search needs)
+loop-again-3 c = searching-past _ _ _ _ _ _ _ _ (c .before .index-of .result) (search needs) (search needs) (search needs) (search needs)
 
 returns : tie.Need-returns Inv-loop μ-loop
 returns c = searching-end _ _ _ _ _ _ _ _ (search needs) (c .before .loop .inv)

@@ -28,8 +28,8 @@ returns c =
     (search needs) (c .before .before .before .before .before .loop .inv .1) (c .before .least .ensures) (c .if1 .taken)
 
 -- the item that was found is one of the n
-shared-slice-read-wide : tie.Need-shared-slice-read-wide Inv-loop μ-loop
-shared-slice-read-wide c = omega (
+shared-slice-read-index-of-byte : tie.Need-shared-slice-read-index-of-byte Inv-loop μ-loop
+shared-slice-read-index-of-byte c = omega (
   arith,
   merging-leads _ _ _ _ _ _ _ _ _ _ _
       (c .before .before .before .before .before .before .loop .inv .1) (c .before .before .least .ensures) (c .before .if1 .left),
@@ -65,7 +65,7 @@ array-read-head c = omega (
 
 add-stage : tie.Need-add-stage Inv-loop μ-loop
 add-stage c = record {
-  fits = omega (arith, c .before .before .before .before .before .before .before .loop .inv .1 .small (c .wide .result % 64));
+  fits = omega (arith, c .before .before .before .before .before .before .before .loop .inv .1 .small (c .index-of-byte .result % 64));
 }
 
 loop-again : tie.Need-loop-again Inv-loop μ-loop
@@ -95,7 +95,7 @@ merge-spec =
     (λ c. search needs)
     (λ c. search needs)
     returns
-    shared-slice-read-wide
+    shared-slice-read-index-of-byte
     (λ c κs. search needs)
     (λ c. search needs)
     (λ c. search needs)

@@ -2,8 +2,7 @@
 use Prim.Native.Nat.{_-_, _≤_}
 use mathlib.Core.Path.{sym, ap, _∙_}
 use native.Mathlib.Omega.{arith}
-use Rattle.text.specs.Written.{entryNumbers}
-use Rattle.text.specs.Rows.{withRow}
+use Rattle.text.specs.Held.{withEntry}
 use Rattle.host.specs.Steps.{Picked}
 use Rattle.host.proofs.Picking.{none-yet, own-fits, own-joins, other-stays, all-seen}
 use borrow.Author.Needs.{needs}
@@ -19,12 +18,6 @@ abbrev μ-loop : tie.MeasureT-loop
 loop-holds : tie.Need-loop-holds Inv-loop μ-loop
 loop-holds c = (omega arith, none-yet _ _ _ _ _ (c .pre))
 
-put-line-requires : tie.Need-put-line-requires Inv-loop μ-loop
-put-line-requires c κs =
-    let h = c .before .before .before .before .before in
-    own-fits _ _ _ _ _ _ _ (h .loop .inv .1) _ (h .before .pre) (search needs)
-    (ap (λ l. l .op .object) (sym (c .before .before .before .entry-at .ensures)) ∙ c .before .if1 .taken)
-
 add-at : tie.Need-add-at Inv-loop μ-loop
 add-at c =
     let h = c .before .before .before .before .before .before in
@@ -38,7 +31,7 @@ loop-again c =
     let e = ap (λ l. l .op .object) (sym d) ∙ c .before .before .if1 .taken in (
       omega arith,
       own-joins _ _ _ _ _ _ _ (h .loop .inv .1) (own-fits _ _ _ _ _ _ _ (h .loop .inv .1) _ (h .before .pre) (search needs) e) e _
-          (c .put-line .ensures ∙ ap (λ l. withRow 6 (h .loop .out) (h .loop .at) (entryNumbers l)) d),
+          (c .put-entry .ensures ∙ ap (withEntry (h .loop .out) (h .loop .at)) d),
     )
 
 loop-again-2 : tie.Need-loop-again-2 Inv-loop μ-loop
@@ -58,7 +51,7 @@ put-object-spec =
     μ-loop
     loop-holds
     (λ c κs. search needs)
-    put-line-requires
+    (λ c κs. search needs)
     add-at
     (λ c. search needs)
     (λ c. search needs)

@@ -1,6 +1,7 @@
 -- `write_texts` meets its contract.
 use native.Mathlib.Omega.{arith}
 use denote.Ref.{now}
+use Rattle.replay.specs.Arrays.{arrays}
 use Rattle.host.specs.Steps.{heldTexts}
 use Rattle.host.proofs.Fitting.{short-trace, short-report, both-fit}
 use borrow.Author.Needs.{needs}
@@ -10,13 +11,13 @@ use Rattle.host.proofs.outputs.write_texts.Tie as tie
 returns : tie.Need-returns
 returns c =
     let a = c .before .before .before .before .before .args in
-    short-trace (heldTexts (now (a .events)) (a .n) (now (a .ofs)) (a .m) (now (a .logs)) (a .k)) (now (a .trace)) (now (a .report))
+    short-trace (heldTexts (arrays (now (a .events)) (a .n) (now (a .ofs)) (a .m) (now (a .logs)) (a .k))) (now (a .trace)) (now (a .report))
     (omega (arith, c .before .before .trace-width .ensures)) _ (c .refused .ensures)
 
 returns-2 : tie.Need-returns-2
 returns-2 c =
     let a = c .before .before .before .before .before .before .before .args in
-    short-report (heldTexts (now (a .events)) (a .n) (now (a .ofs)) (a .m) (now (a .logs)) (a .k)) (now (a .trace)) (now (a .report))
+    short-report (heldTexts (arrays (now (a .events)) (a .n) (now (a .ofs)) (a .m) (now (a .logs)) (a .k))) (now (a .trace)) (now (a .report))
     (omega (arith, c .before .before .report-width .ensures)) _ (c .refused2 .ensures)
 
 returns-3 : tie.Need-returns-3

@@ -2,6 +2,8 @@
 use Prim.Native.Nat.{ℕ}
 use mathlib.Core.Path.{refl}
 use lib.ListN.{length-replicate}
+use Rattle.machine.specs.Objects.{atStart}
+use Rattle.machine.proofs.Performing.{objects-start}
 use Rattle.host.proofs.Recording.{refuses, ready, at-14, at-15, past-15, few-lines, record-as}
 use borrow.Author.Needs.{needs}
 use Rattle.host.proofs.records.record_moves.Statement.{statement}
@@ -9,44 +11,61 @@ use Rattle.host.proofs.records.record_moves.Tie as tie
 
 run-moves-requires : tie.Need-run-moves-requires
 run-moves-requires c κs =
-    ready _ _ _ _ _ _ _ _ (c .before .before .before .before .before .before .before .pre) refl (length-replicate {A = ℕ} 768 0)
-    (length-replicate {A = ℕ} 192 0)
-    (length-replicate {A = ℕ} 640 0) (length-replicate {A = ℕ} 6144 0)
+    let at-slots = c .before .before .before .before .before .before .before in
+    ready _ _ _ _ _ _ _ _ _ (at-slots .before .before .before .pre) refl (length-replicate {A = ℕ} 768 0) (length-replicate {A = ℕ} 192 0)
+    (length-replicate {A = ℕ} 640 0) (length-replicate {A = ℕ} 6144 0) (length-replicate {A = ℕ} 8192 0)
+
+-- the way back from where the schedule was run
+module _ (c : tie.After-run-moves) where
+  abbrev at-slots : tie.After-slots
+  at-slots = c .before .before .before .before .before .before .before .before
+
+  abbrev start : tie.Start
+  start = at-slots .before .before .before
 
 returns : tie.Need-returns
 returns c =
-    refuses _ _ _ 14 _ _ (at-14 _ _ _ _ _ _ _ _ _ _ _ _ (c .before .before .before .before .run-moves .ensures) _
-    (c .before .before .line .given .1)) (c .refused .ensures)
+    let r = c .before .before .before .before in
+    refuses _ _ _ 14 _ _ (at-14 atStart _ _ _ _ _ _ _ _ _ (r .run-moves .ensures atStart (objects-start _ (length-replicate {A = ℕ} 8192 0)))
+    _ (c .before .before .line .given .1)) (c .refused .ensures)
 
 row-15-requires : tie.Need-row-15-requires
-row-15-requires c κs =
-    c .before .before .before .before .before .before .before .before .before .before .before .before .before .pre .movesRoom
+row-15-requires c κs = start (c .before .before .before .before .before) .pre .movesRoom
+
+-- and from where row 15 was looked at
+module _ (c : tie.After-row-15) where
+  abbrev at-c : tie.After-c
+  at-c = c .before .before .before .before
+
+  abbrev at-run : tie.After-run-moves
+  at-run = at-c .before .before
 
 returns-2 : tie.Need-returns-2
 returns-2 c =
     let f = c .before .before .before .before in
-    let r = f .before .before .before .before .before .before in
     refuses _ _ _ 15 _ _
-    (at-15 _ _ _ _ _ _ _ _ _ _ _ _ (r .run-moves .ensures) _ (f .before .before .before .before .c .given .1)
-    (r .before .before .before .before .before .before .before .before .pre)
-    _ (f .row-15 .ensures) _ (c .before .before .line2 .given .1))
+    (at-15 atStart _ _ _ _ _ _ _ _ _ (at-run f .run-moves .ensures atStart (objects-start _ (length-replicate {A = ℕ} 8192 0)))
+    _ (at-c f .c .given .1) (start (at-run f) .pre) _ (f .row-15 .ensures) _ (c .before .before .line2 .given .1))
     (c .refused2 .ensures)
 
 by-object-requires : tie.Need-by-object-requires
 by-object-requires c κs =
-    let e = c .before .before .before .before .before .before .before .before in
-    (few-lines _ _ _ _ 0 0 _ _ _ _ _ _ (e .before .before .run-moves .ensures) _ (e .c .given .1), (length-replicate {A = ℕ} 6144 0))
+    let f = c .before .before .before .before in (
+      few-lines atStart _ _ _ _ 0 0 _ _ _ (at-run f .run-moves .ensures atStart (objects-start _ (length-replicate {A = ℕ} 8192 0)))
+          _ (at-c f .c .given .1),
+      (length-replicate {A = ℕ} 6144 0),
+    )
 
 returns-3 : tie.Need-returns-3
 returns-3 c =
-    let b = c .before .before .before .before .before .before .before .before .before .before in
-    let f = b .before .before .before .before .before in
-    let r = f .before .before .before .before .before .before in
+    let at-write = c .before .before .before .before in
+    let b = at-write .before .before .before .before .before .before in
+    let told = b .before .before .before in
+    let f = told .before .before in
     record-as _ _ _ _ _ _ _
-    (past-15 _ _ _ _ _ _ _ _ _ _ _ _ (r .run-moves .ensures) _ (f .before .before .before .before .c .given .1)
-    (r .before .before .before .before .before .before .before .before .pre)
-    _ (f .row-15 .ensures) (b .before .before .before .enum-told .given .1) _ _ (b .by-object .ensures))
-    (c .before .before .before .before .write-texts .ensures)
+    (past-15 atStart _ _ _ _ _ _ _ _ _ (at-run f .run-moves .ensures atStart (objects-start _ (length-replicate {A = ℕ} 8192 0)))
+    _ (at-c f .c .given .1) (start (at-run f) .pre) _ (f .row-15 .ensures) (told .enum-told .given .1) _ _ (b .by-object .ensures))
+    (at-write .write-texts .ensures)
 
 pub record-moves-spec : {M : Type 1} → statement M
 record-moves-spec =

@@ -6,7 +6,7 @@ use Rattle.host.proofs.steps.arrive.Statement.{statement}
 use Rattle.host.proofs.steps.arrive.Tie as tie
 
 returns : tie.Need-returns
-returns c =
+returns c = λ logs registers cells buckets.
     record {
       unknown = λ h. refl;
       twice = λ h k. absurd (omega (arith, h, c .if1 .taken));
@@ -14,7 +14,7 @@ returns c =
     }
 
 returns-2 : tie.Need-returns-2
-returns-2 c =
+returns-2 c = λ logs registers cells buckets.
     record {
       unknown = λ h. refl;
       twice = λ h k. refl;
@@ -22,12 +22,12 @@ returns-2 c =
     }
 
 returns-3 : tie.Need-returns-3
-returns-3 c =
+returns-3 c = λ logs registers cells buckets.
     let s = c .before .before .before .before .before .before in
     record {
       unknown = λ h. absurd (omega (arith, h, s .before .before .if1 .left));
       twice = λ h k. absurd (k (sym (s .slot-of .ensures) ∙ c .before .before .before .before .before .if2 .left));
-      arrives = λ h k. (_, refl, c .open-request .ensures);
+      arrives = λ h k. (_, refl, c .open-request .ensures logs registers cells buckets);
     }
 
 pub arrive-spec : {M : Type 1} → statement M

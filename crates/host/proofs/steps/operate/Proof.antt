@@ -1,8 +1,7 @@
 -- `operate` meets its contract.
 use mathlib.Core.Path.{refl, ap}
 use native.Mathlib.Omega.{arith}
-use denote.Ref.{now}
-use Rattle.host.proofs.Promises.{locals-as, line-as, count-as, performed-as}
+use Rattle.host.proofs.Promises.{memory-as, locals-as, line-as, count-as}
 use borrow.Author.Needs.{needs}
 use Rattle.host.proofs.steps.operate.Statement.{statement}
 use Rattle.host.proofs.steps.operate.Tie as tie
@@ -13,23 +12,22 @@ add-num c =
     omega (arith, ap (λ x. x .count) (c .before .of-at .ensures), p .1, p .2)
 
 returns : tie.Need-returns
-returns c =
-    let state-put = c .before .before in
+returns c = λ events.
+    let of-put = c .before in
+    let state-put = of-put .before .before in
     let resumes = state-put .before .before .before in
     let performs = resumes .before .before in
-    let line-put = performs .before .before .before .before .before in
+    let line-put = performs .before .before .before .before in
     let own = line-put .before .before .before in
-    let a = own .before .before .args in
     let e = own .of-at .ensures in
-    let log = line-as _ _ _ _ e _ _ _ _ (line-put .put-line .ensures) in
     record {
-      log = log;
-      answer = _;
-      objects =
-          performed-as _ _ _ (now (a .registers)) (now (a .heads)) (now (a .befores)) _ log (performs .perform .ensures);
-      state = locals-as _ _ _ _ _ _ _ (state-put .put-state .ensures) (resumes .resume .ensures);
-      own = count-as _ _ _ _ e _ (c .put-of .ensures);
-      counted = refl;
+      answer = performs .perform .result .answer;
+      left = _;
+      performs = performs .perform .ensures;
+      rest =
+          memory-as _ _ _ _
+          (locals-as _ _ _ _ _ _ _ (state-put .put-state .ensures) (resumes .resume .ensures))
+          (count-as _ _ _ _ e _ (of-put .put-of .ensures)) refl (line-as _ _ _ _ e _ _ _ _ (line-put .put-entry .ensures));
     }
 
 pub operate-spec : {M : Type 1} → statement M

@@ -21,7 +21,7 @@ returns-3 : tie.Need-returns-3
 returns-3 c =
     let a = c .before .before .before .before .before .before .before .before .before .args in
     let s = now (a .s) in
-    line-read (now (a .w)) _ _ s (a .at) _ (a .n) _ _ (c .before .before .at-most-six .ensures) (c .fields-at .ensures)
+    line-read (now (a .w)) _ _ s (a .at) _ (a .n) _ _ (c .before .before .least .ensures) (c .fields-at .ensures)
     (word-test _ s _ _ _ (c .before .before .before .before .begins .ensures) (not-false _ (c .before .before .before .if2 .left)))
 
 pub line-at-spec : {M : Type 1} → statement M

@@ -1,6 +1,7 @@
 -- `asked` meets its contract: each operation is the one that its code's clause asks for.
 use mathlib.Core.Path.{_≡_}
 use native.Mathlib.Omega.{arith}
+use Rattle.text.proofs.CodeLaws.{operation-range}
 use Rattle.machine.specs.Instructions.{effectAs}
 use borrow.Author.Needs.{needs}
 use Rattle.machine.proofs.instructions.asked.Statement.{statement}
@@ -21,7 +22,9 @@ returns-3 c = λ n. rw (c .before .before .before .match .keys3) (cc)
 returns-4 : tie.Need-returns-4
 unfolding effectAs
 returns-4 c = λ n.
-    let e : c .before .before .before .before .args .i .code ≡ 9 = omega arith in
+    let at-start = c .before .before .before .before in
+    let range = operation-range (at-start .args .i .code) (at-start .pre) in
+    let e : at-start .args .i .code ≡ 9 = omega arith in
     rw e (cc)
 
 pub asked-spec : {M : Type 1} → statement M

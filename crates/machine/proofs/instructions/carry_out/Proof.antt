@@ -1,12 +1,20 @@
--- `carry_out` meets its contract; a number past the codes does nothing.
+-- `carry_out` meets its contract: each arm has the clause of its code; a number past the codes does nothing.
+use Prim.Native.Nat.{_+_, _-_, _%_, _^_}
+use mathlib.Core.Path.{_≡_, ap}
+use native.Mathlib.Omega.{arith}
 use lib.ListN.{List·getD-eq-default}
-use Rattle.machine.specs.Codes.{codes, other}
-use mathlib.Core.Path.{ap}
-use borrow.Author.Tests.{ne-eqb}
-use Rattle.machine.specs.Instructions.{effectAs}
 use borrow.Author.Needs.{needs}
+use borrow.Author.Tests.{ne-eqb}
+use Rattle.text.specs.Codes.{codes, other}
+use Rattle.text.proofs.CodeLaws.{range-operation}
+use Rattle.machine.specs.Instructions.{effectAs}
 use Rattle.machine.proofs.instructions.carry_out.Statement.{statement}
 use Rattle.machine.proofs.instructions.carry_out.Tie as tie
+
+asked-requires : tie.Need-asked-requires
+asked-requires c κs =
+    let code = c .before .before .before .args .i .code in
+    range-operation code (omega (arith, c .before .before .match .rest)) (omega arith)
 
 returns : tie.Need-returns
 unfolding effectAs
@@ -14,24 +22,41 @@ returns c = rw (c .before .before .match .keys1) (cc)
 
 returns-2 : tie.Need-returns-2
 unfolding effectAs
-returns-2 c = rw (c .before .before .before .match .keys2, ← c .before .local-at2 .ensures, c .if1 .taken)
+returns-2 c = rw (c .before .before .match .keys2) (c .becomes .ensures)
 
 returns-3 : tie.Need-returns-3
 unfolding effectAs
-returns-3 c = rw (c .before .before .before .match .keys2, ← c .before .local-at2 .ensures, ne-eqb _ _ (c .if1 .left))
+returns-3 c = rw (c .before .before .before .before .before .before .before .match .keys3) (cc)
 
 returns-4 : tie.Need-returns-4
-returns-4 c = cc (c .before .before .computed .ensures (c .before .before .before .before .before .before .args .next))
+unfolding effectAs
+returns-4 c =
+    let x = c .before .before .before .before .before .local-at4 .result in
+    let y = c .before .before .before .local-at5 .result in
+    let e : c .before .before .wrapping-sub-u64 .result ≡ (x + (2 ^ 64 - y)) % 2 ^ 64 = omega arith in
+    rw (c .before .before .before .before .before .before .before .match .keys4) (cc)
 
 returns-5 : tie.Need-returns-5
-returns-5 c = c .asked .ensures _
+unfolding effectAs
+returns-5 c = rw (c .before .before .before .before .before .before .before .match .keys5) (cc)
 
 returns-6 : tie.Need-returns-6
 unfolding effectAs
-returns-6 c =
-    let at-start = c .before .before .before in
+returns-6 c = rw (c .before .before .before .match .keys6, ← c .before .local-at8 .ensures, c .if1 .taken)
+
+returns-7 : tie.Need-returns-7
+unfolding effectAs
+returns-7 c = rw (c .before .before .before .match .keys6, ← c .before .local-at8 .ensures, ne-eqb _ _ (c .if1 .left))
+
+returns-8 : tie.Need-returns-8
+returns-8 c = c .asked .ensures _
+
+returns-9 : tie.Need-returns-9
+unfolding effectAs
+returns-9 c =
+    let at-start = c .before .before in
     ap (λ x. effectAs x (at-start .args .l .now) (at-start .args .i) (at-start .args .next))
-    (List·getD-eq-default codes other (c .if3 .left))
+    (List·getD-eq-default codes other (c .if2 .left))
 
 pub carry-out-spec : {M : Type 1} → statement M
 carry-out-spec =
@@ -42,9 +67,23 @@ carry-out-spec =
     (λ c κs. search needs)
     (λ c κs. search needs)
     (λ c κs. search needs)
+    (λ c κs. search needs)
+    (λ c κs. search needs)
+    (λ c κs. search needs)
+    (λ c κs. search needs)
+    (λ c κs. search needs)
+    (λ c κs. search needs)
+    (λ c κs. search needs)
+    (λ c κs. search needs)
+    (λ c κs. search needs)
+    (λ c κs. search needs)
+    asked-requires
     returns
     returns-2
     returns-3
     returns-4
     returns-5
-    returns-6)
+    returns-6
+    returns-7
+    returns-8
+    returns-9)

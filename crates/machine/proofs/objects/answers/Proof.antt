@@ -1,48 +1,47 @@
 -- `answers` meets its contract. The invariant: the arrays hold the objects above line i, and the answers so far stand in front.
-use Prim.Native.Nat.{_-_, _≤_, min}
-use mathlib.Core.Path.{_≡_, refl, ap, _∙_}
+use Prim.Native.Nat.{ℕ, _+_, _-_, _≤_, min}
+use mathlib.Core.Path.{_≡_, ap, _∙_, subst}
 use native.Mathlib.Omega.{arith}
-use lib.Seq.{sets}
+use lib.ListN.{length}
+use Rattle.basics.specs.Firsts.{firsts}
+use Rattle.basics.proofs.Firsts.{firsts-length}
 use Rattle.text.specs.Held.{entryAt}
-use Rattle.text.specs.Rows.{firsts}
-use Rattle.machine.specs.Objects.{atStart}
-use Rattle.machine.specs.Logs.{ops, answersFrom}
-use Rattle.machine.proofs.Passing.{Registers, Indexed, passed, registers-start, index-start, answers-next}
+use Rattle.machine.specs.Objects.{Content}
+use Rattle.machine.specs.Held.{objects, ObjectsHeld, AnsweredIs}
+use Rattle.machine.proofs.Performing.{answered-none, answered-room, answered-more}
 use borrow.Author.Needs.{needs}
 use Rattle.machine.proofs.objects.answers.Statement.{statement}
 use Rattle.machine.proofs.objects.answers.Tie as tie
 
 abbrev Inv-loop : tie.InvT-loop
-Inv-loop logs n out₀ count registers₀ heads₀ befores₀ i₀ out registers heads befores i =
-    (i ≤ count) × Registers (ops (entryAt logs)) i registers × Indexed (ops (entryAt logs)) i heads befores
-    × (out ≡ sets out₀ 0 (answersFrom atStart (firsts (entryAt logs) i)))
+Inv-loop logs n registers₀ cells₀ buckets₀ was out₀ count used₀ i₀ registers cells buckets out used i =
+    (i ≤ count)
+    × ((cs : ℕ → Content) → ObjectsHeld (objects registers₀ cells₀ buckets₀ was) cs → was + count ≤ 2048 →
+    AnsweredIs (objects registers₀ cells₀ buckets₀ was) cs (firsts (entryAt logs) i) out₀ (objects registers cells buckets used) out)
 
 abbrev μ-loop : tie.MeasureT-loop
-μ-loop logs n out₀ count registers₀ heads₀ befores₀ i₀ out registers heads befores i = count - i
+μ-loop logs n registers₀ cells₀ buckets₀ was out₀ count used₀ i₀ registers cells buckets out used i = count - i
 
 loop-holds : tie.Need-loop-holds Inv-loop μ-loop
-unfolding firsts
-loop-holds c = (omega arith, registers-start _, index-start _, refl)
+loop-holds c = (omega arith, λ cs h g. answered-none _ cs _ _ h)
 
 loop-again : tie.Need-loop-again Inv-loop μ-loop
 loop-again c =
-    let at-before = c .before .before .before .before in
-    let h = at-before .before in
-    let lines = entryAt (h .before .before .args .logs .now) in
-    let p = passed lines (h .loop .i) (h .loop .registers) (h .loop .heads) (h .loop .befores) _ _ _ _ (c .perform .ensures)
-    (omega arith) (h .loop .inv .1) (h .loop .inv .2) in (
+    let at-op = c .before .before .before .before in
+    let h = at-op .before .before in (
       omega arith,
-      p .registers,
-      p .index,
-      answers-next lines (h .loop .i) (h .before .before .args .out .now) (h .loop .out) (c .perform .result) (h .loop .inv .3)
-          (p .answers),
+      λ cs held g.
+          let a = h .loop .inv .1 cs held g in
+          answered-more _ _ cs _ (h .loop .i) _ _ a _ _ _ (at-op .op-at .ensures)
+          (c .perform .ensures _ (a .held) (answered-room _ _ cs _ (h .loop .i) _ _ a (omega arith))),
     )
 
 returns : tie.Need-returns Inv-loop μ-loop
-returns c =
+returns c = λ cs held g.
     let a = c .before .before .before .args in
-    let e : c .before .loop .i ≡ min (a .n) 1024 = omega arith in
-    c .before .loop .inv .3 ∙ ap (λ k. sets (a .out .now) 0 (answersFrom atStart (firsts (entryAt (a .logs .now)) k))) e
+    let count : c .before .before .least .result ≡ min (a .n) 1024 = c .before .before .least .ensures in
+    let all : c .before .loop .i ≡ min (a .n) 1024 = omega arith in
+    rw (← all) (c .before .loop .inv .1 cs held (omega (arith, g, firsts-length (entryAt (a .logs .now)) (min (a .n) 1024))))
 
 pub answers-spec : {M : Type 1} → statement M
 answers-spec =
@@ -52,6 +51,7 @@ answers-spec =
     μ-loop
     (λ c κs. search needs)
     loop-holds
+    (λ c κs. search needs)
     (λ c κs. search needs)
     (λ c. search needs)
     (λ c. search needs)

@@ -1,20 +1,35 @@
 -- `keeps` meets its contract: the row of the code is the definition's.
-use mathlib.Core.Path.{sym, _∙_}
+use Prim.Native.Nat.{ℕ}
+use mathlib.Core.List.{map}
+use mathlib.Core.Path.{_≡_, sym, _∙_}
+use lib.ListN.{getD, List·getD-map}
 use borrow.Author.Tests.{lt-ltb, le-ltb, not-true, not-false}
 use borrow.Author.Needs.{needs}
+use Rattle.text.specs.Codes.{other, codes, codeOf}
+use Rattle.machine.specs.Rules.{fieldsOf}
 use Rattle.machine.proofs.rules.keeps.Statement.{statement}
 use Rattle.machine.proofs.rules.keeps.Tie as tie
+
+-- the row of a code
+row : (n : ℕ) → fieldsOf (codeOf n) ≡ getD (map fieldsOf codes) n (fieldsOf other)
+row n = sym (List·getD-map fieldsOf codes n other)
 
 returns : tie.Need-returns
 returns c = rw (le-ltb _ _ (c .if1 .taken))
 
 returns-2 : tie.Need-returns-2
-returns-2 c = rw (lt-ltb _ _ (c .before .before .before .if1 .left), sym (c .before .fits2 .ensures) ∙ not-true _ (c .if2 .taken))
+returns-2 c =
+    rw (
+      lt-ltb _ _ (c .before .before .before .if1 .left),
+      row (c .before .before .before .before .args .i .code),
+      sym (c .before .fits2 .ensures) ∙ not-true _ (c .if2 .taken),
+    )
 
 returns-3 : tie.Need-returns-3
 returns-3 c =
     rw (
       lt-ltb _ _ (c .before .before .before .before .before .if1 .left),
+      row (c .before .before .before .before .before .before .args .i .code),
       sym (c .before .before .before .fits2 .ensures) ∙ not-false _ (c .before .before .if2 .left),
       sym (c .before .fits3 .ensures) ∙ not-true _ (c .if3 .taken),
     )
@@ -24,6 +39,7 @@ returns-4 c =
     rw (
       c .fits4 .ensures,
       lt-ltb _ _ (c .before .before .before .before .before .before .if1 .left),
+      row (c .before .before .before .before .before .before .before .args .i .code),
       sym (c .before .before .before .before .fits2 .ensures) ∙ not-false _ (c .before .before .before .if2 .left),
       sym (c .before .before .fits3 .ensures) ∙ not-false _ (c .before .if3 .left),
     )

@@ -9,7 +9,7 @@ use Rattle.replay.proofs.claims.answer_of.Tie as tie
 returns : tie.Need-returns
 returns c =
     let a = c .before .before .args in
-    answers-none (a .logs .now) (a .n) (a .rid) (a .num) _ (c .before .claim-at .ensures) (a .o) (c .if1 .taken)
+    answers-none (a .logs .now) (a .n) (a .answers .now) (a .rid) (a .num) _ (c .before .claim-at .ensures) (a .o) (c .if1 .taken)
 
 element-copy-out-t17 : tie.Need-element-copy-out-t17
 element-copy-out-t17 c = omega (arith, c .before .before .before .before .before .pre .few)
@@ -18,14 +18,14 @@ returns-2 : tie.Need-returns-2
 returns-2 c =
     let s = c .before .before .before .before .before .before in
     let a = s .args in
-    answers-right (a .logs .now) (a .n) (a .rid) (a .num) _ (c .before .before .before .before .before .claim-at .ensures) (a .o)
+    answers-right (a .logs .now) (a .n) (a .answers .now) (a .rid) (a .num) _ (c .before .before .before .before .before .claim-at .ensures) (a .o)
     (c .before .before .before .before .if1 .left) _ (c .before .before .before .entry-at .ensures)
-    (sym (c .before .before .same-op .ensures) ∙ c .before .if2 .taken) _ (s .pre .answer _ (c .before .before .before .before .if1 .left))
+    (sym (c .before .before .same-op .ensures) ∙ c .before .if2 .taken)
 
 returns-3 : tie.Need-returns-3
 returns-3 c =
     let a = c .before .before .before .before .before .args in
-    answers-wrong (a .logs .now) (a .n) (a .rid) (a .num) _ (c .before .before .before .before .claim-at .ensures) (a .o)
+    answers-wrong (a .logs .now) (a .n) (a .answers .now) (a .rid) (a .num) _ (c .before .before .before .before .claim-at .ensures) (a .o)
     (c .before .before .before .if1 .left) _ (c .before .before .entry-at .ensures)
     (sym (c .before .same-op .ensures) ∙ c .if2 .left)
 

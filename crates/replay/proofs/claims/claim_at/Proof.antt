@@ -19,7 +19,7 @@ loop-holds : tie.Need-loop-holds Inv-loop μ-loop
 loop-holds c =
     let s = c .before .before .before in
     walk-start _ _ (s .pre .0) (s .args .heads .now) (s .args .afters .now) _ _ (s .pre .1) _
-    (c .wide .ensures ∙ ap (λ b. getD (s .args .heads .now) b 0) (c .before .before .bucket .ensures))
+    (c .index-of .ensures ∙ ap (λ b. getD (s .args .heads .now) b 0) (c .before .before .bucket .ensures))
 
 returns : tie.Need-returns Inv-loop μ-loop
 returns c =
@@ -27,8 +27,8 @@ returns c =
     walk-hit _ _ (s .pre .0) (s .args .heads .now) (s .args .afters .now) _ _ (s .pre .1) _ (c .before .before .before .loop .inv)
     (sym (c .before .is-claim .ensures) ∙ c .if1 .taken)
 
-element-copy-out-wide-2 : tie.Need-element-copy-out-wide-2 Inv-loop μ-loop
-element-copy-out-wide-2 c = search needs
+element-copy-out-index-of-2 : tie.Need-element-copy-out-index-of-2 Inv-loop μ-loop
+element-copy-out-index-of-2 c = search needs
 
 loop-less : tie.Need-loop-less Inv-loop μ-loop
 loop-less c =
@@ -39,14 +39,14 @@ loop-less c =
     omega (
       arith,
       walk-down _ _ (s .pre .0) (s .args .heads .now) (s .args .afters .now) _ _ (s .pre .1) _
-          (at-loop .loop .inv) (at-loop-test .loop-test .taken) _ (c .wide2 .ensures),
+          (at-loop .loop .inv) (at-loop-test .loop-test .taken) _ (c .index-of2 .ensures),
     )
 
 loop-again : tie.Need-loop-again Inv-loop μ-loop
 loop-again c =
     let s = c .before .before .before .before .before .before .before .before .before in
     walk-on _ _ (s .pre .0) (s .args .heads .now) (s .args .afters .now) _ _ (s .pre .1) _
-    (c .before .before .before .before .before .loop .inv) (c .before .before .before .before .loop-test .taken) _ (c .wide2 .ensures)
+    (c .before .before .before .before .before .loop .inv) (c .before .before .before .before .loop-test .taken) _ (c .index-of2 .ensures)
     (sym (c .before .before .before .is-claim .ensures) ∙ c .before .before .if1 .left)
 
 returns-2 : tie.Need-returns-2 Inv-loop μ-loop
@@ -68,7 +68,7 @@ claim-at-spec =
     (λ c κs. search needs)
     returns
     (λ c. search needs)
-    element-copy-out-wide-2
+    element-copy-out-index-of-2
     (λ c κs. search needs)
     loop-less
     loop-again

@@ -9,9 +9,12 @@ link-lines-requires c κs = let p = c .before .before .pre in (p .few, p .none-l
 
 returns : tie.Need-returns
 returns c =
-    let p = c .before .before .before .before .before .pre in
-    let a = answers-prepared _ _ _ _ (p .few) (p .answers-room) (c .answers .ensures) in
-    record { few = p .few; index = c .before .before .link-lines .ensures; room = a .0; answer = a .1 }
+    let at-link-lines = c .before .before .before .before .before in
+    let p = at-link-lines .before .before .before .pre in
+    record {
+      prepared = record { few = p .few; index = at-link-lines .link-lines .ensures };
+      answered = answers-prepared _ _ _ _ _ _ (p .few) (c .answers .ensures) (p .answers-room);
+    }
 
 pub prepare-spec : {M : Type 1} → statement M
 prepare-spec = tie.close (tie.spec link-lines-requires (λ c κs. search needs) returns)

@@ -4,8 +4,8 @@ use mathlib.Core.Logic.{⊎-elim}
 use mathlib.Core.Path.{sym, _∙_}
 use native.Mathlib.Omega.{arith}
 use borrow.Author.Tests.{not-true, not-false}
+use Rattle.basics.specs.Firsts.{firsts}
 use Rattle.text.specs.Held.{ofAt, entryAt}
-use Rattle.text.specs.Rows.{firsts}
 use Rattle.model.specs.Claims.{bad8}
 use Rattle.model.proofs.LineScans.{Scanned, scan-start, scan-end}
 use Rattle.replay.proofs.Counting.{Counting, count-start, count-on, count-not, count-end, counts-more, counts-all}

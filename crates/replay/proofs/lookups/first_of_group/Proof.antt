@@ -6,8 +6,8 @@ use lib.Dec.{eqb}
 use borrow.Author.Count.{below-more}
 use borrow.Author.Needs.{needs}
 use borrow.Author.Tests.{eq-eqb, ne-eqb}
+use Rattle.basics.proofs.Scans.{Passed, here, nowhere}
 use Rattle.text.specs.Held.{ofAt}
-use Rattle.text.proofs.ScanLaws.{Passed, here, nowhere}
 use Rattle.replay.proofs.lookups.first_of_group.Statement.{statement}
 use Rattle.replay.proofs.lookups.first_of_group.Tie as tie
 

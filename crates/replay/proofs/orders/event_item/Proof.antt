@@ -1,6 +1,6 @@
 -- `event_item` meets its contract.
 use borrow.Author.Needs.{needs}
-use Rattle.text.proofs.ScanLaws.{slot-first}
+use Rattle.text.proofs.SlotLaws.{slot-first}
 use Rattle.replay.proofs.Items.{request-item, response-item}
 use Rattle.replay.proofs.orders.event_item.Statement.{statement}
 use Rattle.replay.proofs.orders.event_item.Tie as tie

@@ -1,7 +1,7 @@
 -- `line_item` meets its contract.
 use mathlib.Core.Path.{refl}
 use borrow.Author.Needs.{needs}
-use Rattle.text.proofs.ScanLaws.{slot-first}
+use Rattle.text.proofs.SlotLaws.{slot-first}
 use Rattle.replay.proofs.orders.line_item.Statement.{statement}
 use Rattle.replay.proofs.orders.line_item.Tie as tie
 

@@ -20,8 +20,8 @@ returns c =
     let p = start .pre in
     let w = at-put-items .put-items .ensures in
     let o = start .args .order .now in (
-      merge-returns _ _ _ _ _ _ (p .0) (p .1) (p .2) _ _ _ w _ o refl (p .3) _ (m .1),
-      merge-orders _ _ _ _ _ _ (p .0) (p .1) (p .2) _ _ _ w _ o refl (p .3) _ (m .1) _ (m .0),
+      merge-returns _ (p .0) (p .1) (p .2) _ _ _ w _ o refl (p .3) _ (m .1),
+      merge-orders _ (p .0) (p .1) (p .2) _ _ _ w _ o refl (p .3) _ (m .1) _ (m .0),
     )
 
 pub put-order-spec : {M : Type 1} → statement M

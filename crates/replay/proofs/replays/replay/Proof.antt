@@ -8,25 +8,25 @@ use Rattle.replay.proofs.replays.replay.Tie as tie
 
 abbrev Inv-loop : tie.InvT-loop
 Inv-loop slot logs n heads afters answers paths₀ p l₀ rid count base at₀ done₀ k₀ paths l at done k =
-    Going logs n rid count base (p .code) l₀ paths₀ l at done paths k
+    Going logs n answers rid count base (p .code) l₀ paths₀ l at done paths k
 
 abbrev μ-loop : tie.MeasureT-loop
 μ-loop slot logs n heads afters answers paths₀ p l₀ rid count base at₀ done₀ k₀ paths l at done k = 256 - done
 
 loop-holds : tie.Need-loop-holds Inv-loop μ-loop
-loop-holds c = going-start _ _ _ _ _ _ _ _ (omega arith) (c .before .pre .1)
+loop-holds c = going-start _ _ _ _ _ _ _ _ _ (omega arith) (c .before .pre .1)
 
 loop-again : tie.Need-loop-again Inv-loop μ-loop
 loop-again c =
     let h = c .before .before .before .before .before .before .before .loop in
-    going-moved _ _ _ _ _ _ _ _ _ _ _ _ _ (h .inv) (c .before .before .before .before .before .before .loop-test .taken)
+    going-moved _ _ _ _ _ _ _ _ _ _ _ _ _ _ (h .inv) (c .before .before .before .before .before .before .loop-test .taken)
     _ _ (c .before .before .before .carry-out .ensures)
     _ (c .before .to .given .1)
 
 returns : tie.Need-returns Inv-loop μ-loop
 returns c =
     let h = c .before .before .before .before .before .before .before .before .loop in
-    going-over _ _ _ _ _ _ _ _ _ _ _ _ _ (h .inv) (c .before .before .before .before .before .before .before .loop-test .taken)
+    going-over _ _ _ _ _ _ _ _ _ _ _ _ _ _ (h .inv) (c .before .before .before .before .before .before .before .loop-test .taken)
     _ _ (c .before .before .before .before .carry-out .ensures)
     _ _ (c .before .before .o .given .1) (c .if1 .taken)
     _ _ (c .before .before .before .before .before .before .before .before .before .first-locals .ensures)
@@ -34,7 +34,7 @@ returns c =
 returns-2 : tie.Need-returns-2 Inv-loop μ-loop
 returns-2 c =
     let h = c .before .before .before .before .before .before .before .before .before .before .before .loop in
-    going-wrong _ _ _ _ _ _ _ _ _ _ _ _ _ (h .inv)
+    going-wrong _ _ _ _ _ _ _ _ _ _ _ _ _ _ (h .inv)
     (c .before .before .before .before .before .before .before .before .before .before .loop-test .taken)
     _ _ (c .before .before .before .before .before .before .before .carry-out .ensures)
     _ _ (c .before .before .before .before .before .o .given .1) (c .before .before .before .if1 .left)
@@ -45,7 +45,7 @@ loop-again-2 : tie.Need-loop-again-2 Inv-loop μ-loop
 loop-again-2 c =
     let h = c .before .before .before .before .before .before .before .before .before .before .before .before .before .before .loop in
     rw (c .resume .ensures)
-    (going-right _ _ _ _ _ _ _ _ _ _ _ _ _ (h .inv)
+    (going-right _ _ _ _ _ _ _ _ _ _ _ _ _ _ (h .inv)
     (c .before .before .before .before .before .before .before .before .before .before .before .before .before .loop-test .taken)
     _ _ (c .before .before .before .before .before .before .before .before .before .before .carry-out .ensures)
     _ _ (c .before .before .before .before .before .before .before .before .o .given .1)
@@ -55,14 +55,14 @@ loop-again-2 c =
 returns-3 : tie.Need-returns-3 Inv-loop μ-loop
 returns-3 c =
     let h = c .before .before .before .before .before .before .before .before .loop in
-    going-replied _ _ _ _ _ _ _ _ _ _ _ _ _ (h .inv) (c .before .before .before .before .before .before .before .loop-test .taken)
+    going-replied _ _ _ _ _ _ _ _ _ _ _ _ _ _ (h .inv) (c .before .before .before .before .before .before .before .loop-test .taken)
     _ _ (c .before .before .before .before .carry-out .ensures)
     _ (c .before .before .v2 .given .1) _ (c .stopped .ensures)
     _ _ (c .before .before .before .before .before .before .before .before .before .first-locals .ensures)
 
 returns-4 : tie.Need-returns-4 Inv-loop μ-loop
 returns-4 c =
-    going-cut _ _ _ _ _ _ _ _ _ _ _ _ _ (c .before .before .loop .inv) (omega arith) _ (c .stopped2 .ensures) _ _
+    going-cut _ _ _ _ _ _ _ _ _ _ _ _ _ _ (c .before .before .loop .inv) (omega arith) _ (c .stopped2 .ensures) _ _
     (c .before .before .before .first-locals .ensures)
 
 pub replay-spec : {M : Type 1} → statement M

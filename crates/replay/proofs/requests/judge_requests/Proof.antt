@@ -3,96 +3,94 @@ use mathlib.Core.Path.{refl}
 use Prim.Native.Nat.{_-_}
 use native.Mathlib.Omega.{arith}
 use borrow.Author.Needs.{needs}
-use Rattle.replay.proofs.Judging.{Judging, step-of, row-ready, judging-start, judging-next, judging-stop, judging-end}
+use Rattle.replay.specs.Arrays.{arrays}
+use Rattle.replay.proofs.Judging.{Judging, Step, step-of, row-ready, judging-start, judging-next, judging-stop, judging-end}
 use Rattle.replay.proofs.requests.judge_requests.Statement.{statement}
 use Rattle.replay.proofs.requests.judge_requests.Tie as tie
 
 abbrev Inv-loop : tie.InvT-loop
 Inv-loop events t ofs m logs n heads afters answers ps paths₀ lengths₀ progs₀ k₀ paths lengths progs k =
-    Judging (ps .table) events t ofs m logs n progs lengths paths k
+    Judging (ps .table) (arrays events t ofs m logs n) answers progs lengths paths k
 
 abbrev μ-loop : tie.MeasureT-loop
 μ-loop events t ofs m logs n heads afters answers ps paths₀ lengths₀ progs₀ k₀ paths lengths progs k = m - k
 
 loop-holds : tie.Need-loop-holds Inv-loop μ-loop
-loop-holds c = judging-start _ _ _ _ _ _ _ _ _ _ (c .pre .0) refl refl refl
+loop-holds c = judging-start _ _ _ _ _ _ (c .pre .0) refl refl refl
+
+-- the way back from where the request was replayed
+module _ (c : tie.After-replay Inv-loop μ-loop) where
+  abbrev at-response : tie.After-event-of2 Inv-loop μ-loop
+  at-response = c .before .before .before .before
+
+  abbrev at-of : tie.After-of-at Inv-loop μ-loop
+  at-of = at-response .before .before .before
+
+  abbrev at-test : tie.In-loop Inv-loop μ-loop
+  at-test = at-of .before .before
+
+  abbrev at-loop : tie.At-loop Inv-loop μ-loop
+  at-loop = at-test .before
+
+-- and what was looked up on it, up to its row
+module _ (c : tie.After-row-of Inv-loop μ-loop) where
+  abbrev at-done : tie.After-done-of Inv-loop μ-loop
+  at-done = c .before .before .before .before
+
+  abbrev at-replay : tie.After-replay Inv-loop μ-loop
+  at-replay = at-done .before
+
+  looked :
+      let a = at-loop at-replay .before .args in
+      let l = at-loop at-replay .loop in
+      Step (a .t1 .table) (arrays (a .events .now) (a .t) (a .ofs .now) (a .m) (a .logs .now) (a .n)) (a .answers .now)
+      (at-of at-replay .of-at .result) (l .k) (l .progs) (l .lengths) (l .paths) (at-replay .replay .last .1 .1 .1 .1 .1 .1 .1 .1 .1 .0)
+      (at-response at-replay .before .arrival-at .result) (at-done .done-of .result) (c .row-of .result)
+  looked =
+      record {
+        s = _;
+        s′ = _;
+        f = _;
+        reply = _;
+        program = _;
+        end = _;
+        requests = at-response at-replay .before .before .event-of .ensures;
+        starts = at-response at-replay .before .arrival-at .ensures;
+        responses = at-response at-replay .event-of2 .ensures;
+        replies = at-replay .before .before .before .reply-at .ensures;
+        programs = refl;
+        replays = at-replay .replay .ensures;
+        done = at-done .done-of .ensures;
+        group = at-of at-replay .before .first-of-group .ensures;
+        row-is = c .row-of .ensures;
+      }
 
 replay-requires : tie.Need-replay-requires Inv-loop μ-loop
 replay-requires c κs =
-    let h = c .before .before .before .before .before .before .before .before .before .loop in (
-      omega (arith, h .inv .few),
-      h .inv .paths-room,
-      c .before .before .before .before .before .before .before .before .before .before .pre .1,
-    )
+    let h = c .before .before .before .before .before .before .before .before .before in
+    (omega (arith, h .loop .inv .few), h .loop .inv .paths-room, h .before .pre .1)
 
 row-of-requires : tie.Need-row-of-requires Inv-loop μ-loop
 row-of-requires c κs =
-    let h = c .before .before .before .before .before .before .before .before .before .before .before .before .before .before .loop in
-    row-ready _ _ _ _ _ _ _ _ _ _ _ _ _ _ (h .inv)
-    (c .before .before .before .before .before .before .before .before .before .before .before .before .before .loop-test .taken)
-    (c .before .before .before .before .before .before .before .before .before .before .before .before .first-of-group .ensures)
-    (c .before .before .before .done-of .ensures) (c .before .before .before .before .replay .ensures .few)
+    let d = c .before .before .before in
+    let r = d .before in
+    row-ready _ _ _ _ _ _ _ _ _ _ (at-loop r .loop .inv) (at-test r .loop-test .taken) (at-of r .before .first-of-group .ensures)
+    (d .done-of .ensures) (r .replay .ensures .few)
 
 returns : tie.Need-returns Inv-loop μ-loop
 returns c =
-    let h = c .before .before .before .before .before .before .before .before .before .before .before .before .before .before .before
-    .before .loop in
-    judging-stop _ _ _ _ _ _ _ (h .k) _ _ _ _ _ _ _ (h .inv)
-    (c .before .before .before .before .before .before .before .before .before .before .before .before .before .before .before
-    .loop-test .taken)
-    (step-of _ _ _ _ _ _ _ _ _ _ _ _ _ _ _ _ (c .before .before .before .before .before .before .before .before .before .before .before
-    .before .before .of-at .ensures)
-    (record {
-      s = _;
-      s′ = _;
-      f = _;
-      reply = _;
-      program = _;
-      end = _;
-      requests = c .before .before .before .before .before .before .before .before .before .before .before .before .request-at .ensures;
-      starts = c .before .before .before .before .before .before .before .before .before .before .before .arrival-at .ensures;
-      responses = c .before .before .before .before .before .before .before .before .before .before .response-at .ensures;
-      replies = c .before .before .before .before .before .before .before .before .before .reply-at .ensures;
-      programs = refl;
-      replays = c .before .before .before .before .before .before .replay .ensures;
-      done = c .before .before .before .before .before .done-of .ensures;
-      group = c .before .before .before .before .before .before .before .before .before .before .before .before .before .before
-          .first-of-group .ensures;
-      row-is = c .before .row-of .ensures;
-    }))
-    (c .if1 .taken)
+    let r = at-replay (c .before) in
+    judging-stop _ _ _ (at-loop r .loop .k) _ _ _ _ _ _ _ (at-loop r .loop .inv) (at-test r .loop-test .taken)
+    (step-of _ _ _ _ _ _ _ _ _ _ _ _ (at-of r .of-at .ensures) (looked (c .before))) (c .if1 .taken)
 
 loop-again : tie.Need-loop-again Inv-loop μ-loop
 loop-again c =
-    let h = c .before .before .before .before .before .before .before .before .before .before .before .before .before .before .before
-    .before .loop in
-    judging-next _ _ _ _ _ _ _ (h .k) _ _ _ _ _ _ _ (h .inv)
-    (c .before .before .before .before .before .before .before .before .before .before .before .before .before .before .before
-    .loop-test .taken)
-    (step-of _ _ _ _ _ _ _ _ _ _ _ _ _ _ _ _ (c .before .before .before .before .before .before .before .before .before .before .before
-    .before .before .of-at .ensures)
-    (record {
-      s = _;
-      s′ = _;
-      f = _;
-      reply = _;
-      program = _;
-      end = _;
-      requests = c .before .before .before .before .before .before .before .before .before .before .before .before .request-at .ensures;
-      starts = c .before .before .before .before .before .before .before .before .before .before .before .arrival-at .ensures;
-      responses = c .before .before .before .before .before .before .before .before .before .before .response-at .ensures;
-      replies = c .before .before .before .before .before .before .before .before .before .reply-at .ensures;
-      programs = refl;
-      replays = c .before .before .before .before .before .before .replay .ensures;
-      done = c .before .before .before .before .before .done-of .ensures;
-      group = c .before .before .before .before .before .before .before .before .before .before .before .before .before .before
-          .first-of-group .ensures;
-      row-is = c .before .row-of .ensures;
-    }))
-    (c .if1 .left)
+    let r = at-replay (c .before) in
+    judging-next _ _ _ (at-loop r .loop .k) _ _ _ _ _ _ _ (at-loop r .loop .inv) (at-test r .loop-test .taken)
+    (step-of _ _ _ _ _ _ _ _ _ _ _ _ (at-of r .of-at .ensures) (looked (c .before))) (c .if1 .left)
 
 returns-2 : tie.Need-returns-2 Inv-loop μ-loop
-returns-2 c = judging-end _ _ _ _ _ _ _ _ _ _ _ (c .before .loop .inv) (omega arith)
+returns-2 c = judging-end _ _ _ _ _ _ _ (c .before .loop .inv) (omega arith)
 
 pub judge-requests-spec : {M : Type 1} → statement M
 judge-requests-spec =
@@ -116,17 +114,9 @@ judge-requests-spec =
     (λ c. search needs)
     (λ c. search needs)
     row-of-requires
-    (λ c. omega (
-      arith,
-      c .before .before .before .before .before .before .before .before .before .before .before .before .before .before
-          .before .before .loop .inv .few,
-    ))
+    (λ c. omega (arith, at-loop (c .before .before .before .before .before .before) .loop .inv .few))
     returns
-    (λ c. omega (
-      arith,
-      c .before .before .before .before .before .before .before .before .before .before .before .before .before .before
-          .before .before .loop .inv .few,
-    ))
+    (λ c. omega (arith, at-loop (c .before .before .before .before .before .before) .loop .inv .few))
     (λ c. search needs)
     loop-again
     returns-2)

@@ -1,24 +1,30 @@
 -- `text::programs::program_line` meets its contract.
 use native.Mathlib.Omega.{arith}
-use Rattle.lines.proofs.Prefix.{prefix-apart}
 use Rattle.text.specs.Formats.{programLine, doLine}
-use Rattle.text.proofs.Alternatives.{Apart, told-second-ahead, told-first-behind}
+use Rattle.text.specs.Programs.{programKinds}
+use Rattle.text.proofs.LineKinds.{told-known, told-unknown, missed}
+use Rattle.text.proofs.ProgramsReading.{programs-apart}
 use borrow.Author.Needs.{needs}
 use Rattle.text.proofs.programs.program_line.Statement.{statement}
 use Rattle.text.proofs.programs.program_line.Tie as tie
 
-apart : Apart programLine doLine
-apart t = prefix-apart 100 112 _ _ t (λ e. absurd (omega arith))
-
 returns : tie.Need-returns
-returns c = told-second-ahead programLine doLine apart _ _ _ _ _ _ _ (c .before .e .given .1) (c .before .before .before .line-at .ensures)
+returns c =
+    told-known programKinds programs-apart _ _ 1 (omega arith) _ _ _
+    (c .before .e .given .1) (c .before .before .before .line-at .ensures)
 
 returns-2 : tie.Need-returns-2
 returns-2 c =
-    told-first-behind programLine doLine apart _ _ _ _ _ _ _ _ _
-    (c .before .before .before .before .before .before .enum-told .given .1)
-    (c .before .before .before .before .before .before .before .before .line-at .ensures) (c .first .ensures)
-    (c .before .line-at2 .ensures)
+    told-known programKinds programs-apart _ _ 0 (omega arith) _ _ _
+    (c .before .e2 .given .1) (c .before .before .before .line-at2 .ensures)
+
+returns-3 : tie.Need-returns-3
+returns-3 c =
+    let p = c .before .before .before .before .before .before .before in
+    told-unknown programKinds _ _ _ (
+      missed programLine _ _ _ _ _ (c .enum-told2 .given .1) (c .before .before .line-at2 .ensures),
+      (missed doLine _ _ _ _ _ (p .enum-told .given .1) (p .before .before .line-at .ensures), tt),
+    )
 
 pub program-line-spec : {M : Type 1} → statement M
 program-line-spec =
@@ -27,9 +33,11 @@ program-line-spec =
     (λ c. search needs)
     (λ c κs. search needs)
     (λ c. search needs)
-    (λ c. search needs)
-    (λ c. search needs)
-    (λ c κs. search needs)
-    (λ c κs. search needs)
     returns
-    returns-2)
+    (λ c. search needs)
+    (λ c. search needs)
+    (λ c κs. search needs)
+    (λ c. search needs)
+    returns-2
+    (λ c. search needs)
+    returns-3)

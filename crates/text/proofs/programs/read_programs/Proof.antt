@@ -1,20 +1,19 @@
 -- `text::programs::read_programs` meets its contract.
 use Prim.Native.Nat.{_-_}
-use native.Mathlib.Omega.{arith}
 use mathlib.Core.Path.{refl}
+use native.Mathlib.Omega.{arith}
 use lib.ListN.{length}
+use Rattle.text.specs.Programs.{programKinds}
+use Rattle.text.proofs.LineKinds.{is-known, is-last, line-unknown, line-cut}
 use Rattle.text.proofs.ProgramsReading.{
+  programs-apart,
   Held,
   held-long,
   held-start,
   held-done,
-  held-neither,
-  program-adds,
-  program-cut,
+  held-refused,
   program-full,
   program-on,
-  do-adds,
-  do-cut,
   do-early,
   do-long,
   do-on,
@@ -37,104 +36,109 @@ loop-holds c = held-start _ _ _ (search needs) (c .no-code2 .ensures) (search ne
 
 returns-2 : tie.Need-returns-2 Inv-loop μ-loop
 returns-2 c =
-    program-cut (c .before .before .before .before .before .before .before .before .loop .inv) (search needs) _ _
-    (c .before .before .before .before .before .program-line .ensures) _ (c .before .before .before .e .given .1) (search needs) _
-    (c .unreadable2 .ensures)
+    let p = c .before .before .before in
+    let r = p .before .before .before .loop .inv in
+    held-refused r (line-unknown (r .reading) programs-apart (search needs) _ _ (p .program-line .ensures) (c .before .enum-told .given .1))
+    _ (c .unreadable2 .ensures)
 
 returns-3 : tie.Need-returns-3 Inv-loop μ-loop
 returns-3 c =
-    program-full (c .before .before .before .before .before .before .before .before .before .loop .inv) (search needs) _ _
-    (c .before .before .before .before .before .before .program-line .ensures) _ (c .before .before .before .before .e .given .1)
-    (search needs) _ (c .unreadable3 .ensures)
+    let p = c .before .before .before in
+    let r = p .before .before .before .before .before .loop .inv in
+    held-refused r
+    (line-cut (r .reading) programs-apart (search needs) _ _ (p .before .before .program-line .ensures) _ _ (p .k .given .1) (search needs))
+    _ (c .unreadable3 .ensures)
+
+-- ── a `program` line ──
+
+returns-4 : tie.Need-returns-4 Inv-loop μ-loop
+returns-4 c =
+    let p = c .before .before .before .before .before in
+    let f = is-known programKinds programs-apart _ _ _ _ (p .before .before .program-line .ensures) _ _ 0 (p .k .given .1)
+    (c .before .before .match2 .keys1) in
+    program-full (p .before .before .before .before .before .loop .inv) (search needs) f (search needs) _ (c .unreadable4 .ensures)
 
 add-table : tie.Need-add-table Inv-loop μ-loop
 add-table c =
-    let r = c .before .before .before .before .before .before .before .before .loop .inv in
+    let r = c .before .before .before .before .before .before .before .before .before .loop .inv in
     omega (arith, r .few, r .current .few, r .reading .lines, r .reading .inside, r .reading .short)
 
 array-set-from-table : tie.Need-array-set-from-table Inv-loop μ-loop
-array-set-from-table c = let r = c .before .before .before .before .before .before .before .before .loop .inv in omega (arith, r .room)
+array-set-from-table c =
+    let r = c .before .before .before .before .before .before .before .before .before .loop .inv in
+    omega (arith, r .room)
 
 add-m : tie.Need-add-m Inv-loop μ-loop
 add-m c =
-    let r = c .before .before .before .before .before .before .before .before .before .before .before .loop .inv in
+    let r = c .before .before .before .before .before .before .before .before .before .before .before .before .loop .inv in
     omega (arith, r .few, r .current .few, r .reading .lines, r .reading .inside, r .reading .short)
 
 add-line : tie.Need-add-line Inv-loop μ-loop
 add-line c =
-    let r = c .before .before .before .before .before .before .before .before .before .before .before .loop .inv in
+    let r = c .before .before .before .before .before .before .before .before .before .before .before .before .loop .inv in
     omega (arith, r .few, r .current .few, r .reading .lines, r .reading .inside, r .reading .short)
 
 loop-less : tie.Need-loop-less Inv-loop μ-loop
 loop-less c =
-    omega (
-      arith,
-      program-adds (c .before .before .before .before .before .before .before .before .before .before .before .loop .inv)
-          (search needs) _ _ (c .before .before .before .before .before .before .before .before .program-line .ensures) _
-          (c .before .before .before .before .before .before .e .given .1) .end,
-    )
+    let p = c .before .before .before .before .before .before .before in
+    let f = is-known programKinds programs-apart _ _ _ _ (p .before .before .program-line .ensures) _ _ _ (p .k .given .1) refl in
+    omega (arith, f .end)
 
 loop-again : tie.Need-loop-again Inv-loop μ-loop
 loop-again c =
-    program-on (c .before .before .before .before .before .before .before .before .before .before .before .loop .inv) (search needs)
-    _ _ (c .before .before .before .before .before .before .before .before .program-line .ensures) _
-    (c .before .before .before .before .before .before .e .given .1) (search needs) (search needs) _ _ _
+    let p = c .before .before .before .before .before .before .before in
+    let f = is-known programKinds programs-apart _ _ _ _ (p .before .before .program-line .ensures) _ _ 0 (p .k .given .1)
+    (c .before .before .before .before .match2 .keys1) in
+    program-on (p .before .before .before .before .before .loop .inv) (search needs) f (search needs) (search needs) _ _ _
     (c .before .number-from .ensures) refl (c .no-code3 .ensures)
 
-returns-4 : tie.Need-returns-4 Inv-loop μ-loop
-returns-4 c =
-    do-cut (c .before .before .before .before .before .before .before .before .loop .inv) (search needs) _ _
-    (c .before .before .before .before .before .program-line .ensures) _ (c .before .before .before .e2 .given .1) (search needs) _
-    (c .unreadable4 .ensures)
+-- ── a `do` line ──
 
 returns-5 : tie.Need-returns-5 Inv-loop μ-loop
 returns-5 c =
-    do-early (c .before .before .before .before .before .before .before .before .before .loop .inv) (search needs) _ _
-    (c .before .before .before .before .before .before .program-line .ensures) _ (c .before .before .before .before .e2 .given .1)
-    (search needs) _ (c .unreadable5 .ensures)
+    let p = c .before .before .before .before .before in
+    let f = is-last programKinds programs-apart _ _ _ _ (p .before .before .program-line .ensures) _ _ 1 (p .k .given .1) refl
+    (omega (arith, c .before .before .match2 .rest .1)) in
+    do-early (p .before .before .before .before .before .loop .inv) (search needs) f (search needs) _ (c .unreadable5 .ensures)
 
 returns-6 : tie.Need-returns-6 Inv-loop μ-loop
 returns-6 c =
-    do-long (c .before .before .before .before .before .before .before .before .before .before .loop .inv) (search needs) _ _
-    (c .before .before .before .before .before .before .before .program-line .ensures) _
-    (c .before .before .before .before .before .e2 .given .1) (c .before .before .if5 .left) (search needs) _
+    let p = c .before .before .before .before .before .before in
+    let f = is-last programKinds programs-apart _ _ _ _ (p .before .before .program-line .ensures) _ _ 1 (p .k .given .1) refl
+    (omega (arith, c .before .before .before .match2 .rest .1)) in
+    do-long (p .before .before .before .before .before .loop .inv) (search needs) f (c .before .before .if4 .left) (search needs) _
     (c .unreadable6 .ensures)
 
 array-set-from-code : tie.Need-array-set-from-code Inv-loop μ-loop
 array-set-from-code c =
-    let r = c .before .before .before .before .before .before .before .before .before .before .before .loop .inv in
+    let r = c .before .before .before .before .before .before .before .before .before .before .before .before .loop .inv in
     omega (arith, r .size)
 
 add-n : tie.Need-add-n Inv-loop μ-loop
 add-n c =
-    let r = c .before .before .before .before .before .before .before .before .before .before .before .loop .inv in
+    let r = c .before .before .before .before .before .before .before .before .before .before .before .before .loop .inv in
     omega (arith, r .few, r .current .few, r .reading .lines, r .reading .inside, r .reading .short)
 
 add-line-2 : tie.Need-add-line-2 Inv-loop μ-loop
 add-line-2 c =
-    let r = c .before .before .before .before .before .before .before .before .before .before .before .loop .inv in
+    let r = c .before .before .before .before .before .before .before .before .before .before .before .before .loop .inv in
     omega (arith, r .few, r .current .few, r .reading .lines, r .reading .inside, r .reading .short)
 
 loop-less-2 : tie.Need-loop-less-2 Inv-loop μ-loop
 loop-less-2 c =
-    omega (
-      arith,
-      do-adds (c .before .before .before .before .before .before .before .before .before .before .before .loop .inv)
-          (search needs) _ _ (c .before .before .before .before .before .before .before .before .program-line .ensures) _
-          (c .before .before .before .before .before .before .e2 .given .1) .end,
-    )
+    let p = c .before .before .before .before .before .before .before in
+    let f = is-known programKinds programs-apart _ _ _ _ (p .before .before .program-line .ensures) _ _ _ (p .k .given .1) refl in
+    omega (arith, f .end)
 
 loop-again-2 : tie.Need-loop-again-2 Inv-loop μ-loop
 loop-again-2 c =
-    do-on (c .before .before .before .before .before .before .before .before .before .before .before .loop .inv) (search needs) _ _
-    (c .before .before .before .before .before .before .before .before .program-line .ensures) _
-    (c .before .before .before .before .before .before .e2 .given .1) (c .before .before .before .if5 .left) (search needs)
-    (search needs) _ (c .instr-from .ensures)
+    let p = c .before .before .before .before .before .before .before in
+    let f = is-last programKinds programs-apart _ _ _ _ (p .before .before .program-line .ensures) _ _ 1 (p .k .given .1) refl
+    (omega (arith, c .before .before .before .before .match2 .rest .1)) in
+    do-on (p .before .before .before .before .before .loop .inv) (search needs) f (c .before .before .before .if4 .left) (search needs) (search needs) _
+    (c .instr-from .ensures)
 
-returns-7 : tie.Need-returns-7 Inv-loop μ-loop
-returns-7 c =
-    held-neither (c .before .before .before .before .before .before .loop .inv) (search needs) _ _
-    (c .before .before .before .program-line .ensures) (c .before .enum-told .given .1) _ (c .unreadable7 .ensures)
+-- ── the end ──
 
 add-table-2 : tie.Need-add-table-2 Inv-loop μ-loop
 add-table-2 c =
@@ -144,8 +148,8 @@ add-table-2 c =
 array-set-from-table-2 : tie.Need-array-set-from-table-2 Inv-loop μ-loop
 array-set-from-table-2 c = let r = c .before .loop .inv in omega (arith, r .room)
 
-returns-8 : tie.Need-returns-8 Inv-loop μ-loop
-returns-8 c = held-done (c .before .loop .inv) (search needs) _ refl
+returns-7 : tie.Need-returns-7 Inv-loop μ-loop
+returns-7 c = held-done (c .before .loop .inv) (search needs) _ refl
 
 pub read-programs-spec : {M : Type 1} → statement M
 read-programs-spec =
@@ -160,10 +164,13 @@ read-programs-spec =
     loop-holds
     (λ c κs. search needs)
     (λ c. search needs)
+    (λ c. search needs)
     (λ c κs. search needs)
     returns-2
     (λ c κs. search needs)
     returns-3
+    (λ c κs. search needs)
+    returns-4
     add-table
     (λ c. search needs)
     array-set-from-table
@@ -174,9 +181,6 @@ read-programs-spec =
     (λ c. search needs)
     loop-less
     loop-again
-    (λ c. search needs)
-    (λ c κs. search needs)
-    returns-4
     (λ c κs. search needs)
     returns-5
     (λ c κs. search needs)
@@ -189,10 +193,7 @@ read-programs-spec =
     (λ c. search needs)
     loop-less-2
     loop-again-2
-    (λ c. search needs)
-    (λ c κs. search needs)
-    returns-7
     add-table-2
     (λ c. search needs)
     array-set-from-table-2
-    returns-8)
+    returns-7)

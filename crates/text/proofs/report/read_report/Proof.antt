@@ -1,23 +1,25 @@
 -- `text::report::read_report` meets its contract.
 use Prim.Native.Nat.{_-_}
+use mathlib.Core.Path.{refl, sym, _∙_}
 use native.Mathlib.Omega.{arith}
 use lib.ListN.{length}
+use Rattle.text.specs.Report.{reportKinds}
+use Rattle.text.proofs.LineKinds.{is-known, is-last, line-unknown, line-cut}
 use Rattle.text.proofs.ReportReading.{
+  report-apart,
   Held,
   held-long,
   held-start,
   held-done,
-  held-neither,
-  of-adds,
-  of-cut,
+  held-refused,
   of-behind,
   of-full,
   of-on,
-  log-adds,
-  log-cut,
+  log-kind,
   log-full,
   log-on,
 }
+use borrow.Author.Tests.{not-true, not-false}
 use borrow.Author.Needs.{needs}
 use Rattle.text.proofs.report.read_report.Statement.{statement}
 use Rattle.text.proofs.report.read_report.Tie as tie
@@ -42,75 +44,90 @@ add-line-2 c = let r = c .before .loop .inv in omega (arith, r .fewOfs, r .fewEn
 
 returns-2 : tie.Need-returns-2 Inv-loop μ-loop
 returns-2 c =
-    of-cut (c .before .before .before .before .before .before .before .loop .inv) (search needs) _ _
-    (c .before .before .before .before .report-line .ensures) _ (c .before .before .e .given .1) (search needs)
+    let p = c .before .before in
+    let r = p .before .before .before .loop .inv in
+    held-refused r (line-unknown (r .reading) report-apart (search needs) _ _ (p .report-line .ensures) (c .enum-told .given .1))
 
 returns-3 : tie.Need-returns-3 Inv-loop μ-loop
 returns-3 c =
-    of-behind (c .before .before .before .before .before .before .before .before .loop .inv) (search needs) _ _
-    (c .before .before .before .before .before .report-line .ensures) _ (c .before .before .before .e .given .1) (search needs)
+    let p = c .before .before in
+    let r = p .before .before .before .before .before .loop .inv in
+    held-refused r
+    (line-cut (r .reading) report-apart (search needs) _ _ (p .before .before .report-line .ensures) _ _ (p .k .given .1) (search needs))
+
+-- ── an `of` line ──
 
 returns-4 : tie.Need-returns-4 Inv-loop μ-loop
 returns-4 c =
-    of-full (c .before .before .before .before .before .before .before .before .before .loop .inv) (search needs) _ _
-    (c .before .before .before .before .before .before .report-line .ensures) _ (c .before .before .before .before .e .given .1)
-    (search needs) (search needs)
+    let p = c .before .before .before .before in
+    let f = is-known reportKinds report-apart _ _ _ _ (p .before .before .report-line .ensures) _ _ 0 (p .k .given .1)
+    (c .before .match2 .keys1) in
+    of-behind (p .before .before .before .before .before .loop .inv) (search needs) f (search needs)
+
+returns-5 : tie.Need-returns-5 Inv-loop μ-loop
+returns-5 c =
+    let p = c .before .before .before .before .before in
+    let f = is-known reportKinds report-apart _ _ _ _ (p .before .before .report-line .ensures) _ _ 0 (p .k .given .1)
+    (c .before .before .match2 .keys1) in
+    of-full (p .before .before .before .before .before .loop .inv) (search needs) f (search needs) (search needs)
 
 add-m : tie.Need-add-m Inv-loop μ-loop
 add-m c =
-    let r = c .before .before .before .before .before .before .before .before .before .before .before .before .loop .inv in
+    let r = c .before .before .before .before .before .before .before .before .before .before .before .before .before .before .loop .inv in
     omega (arith, r .fewOfs, r .fewEntries)
 
 loop-less : tie.Need-loop-less Inv-loop μ-loop
 loop-less c =
-    omega (
-      arith,
-      of-adds (c .before .before .before .before .before .before .before .before .before .before .before .before .loop .inv)
-          (search needs) _ _ (c .before .before .before .before .before .before .before .before .before .report-line .ensures) _
-          (c .before .before .before .before .before .before .before .e .given .1) .end,
-    )
+    let p = c .before .before .before .before .before .before .before .before .before in
+    let f = is-known reportKinds report-apart _ _ _ _ (p .before .before .report-line .ensures) _ _ _ (p .k .given .1) refl in
+    omega (arith, f .end)
 
 loop-again : tie.Need-loop-again Inv-loop μ-loop
 loop-again c =
-    of-on (c .before .before .before .before .before .before .before .before .before .before .before .before .loop .inv)
-    (search needs) _ _ (c .before .before .before .before .before .before .before .before .before .report-line .ensures) _
-    (c .before .before .before .before .before .before .before .e .given .1) (search needs) (search needs) (search needs) _
-    (c .put-of .ensures)
+    let p = c .before .before .before .before .before .before .before .before .before in
+    let f = is-known reportKinds report-apart _ _ _ _ (p .before .before .report-line .ensures) _ _ 0 (p .k .given .1)
+    (c .before .before .before .before .before .before .match2 .keys1) in
+    of-on (p .before .before .before .before .before .loop .inv) (search needs) f (search needs) (search needs) (search needs) _
+    (c .before .of-from .ensures) _ (c .put-of .ensures)
 
-returns-5 : tie.Need-returns-5 Inv-loop μ-loop
-returns-5 c =
-    log-cut (c .before .before .before .before .before .before .before .loop .inv) (search needs) _ _
-    (c .before .before .before .before .report-line .ensures) _ (c .before .before .e2 .given .1) (search needs)
+-- ── a `log` line ──
 
 returns-6 : tie.Need-returns-6 Inv-loop μ-loop
 returns-6 c =
-    log-full (c .before .before .before .before .before .before .before .before .loop .inv) (search needs) _ _
-    (c .before .before .before .before .before .report-line .ensures) _ (c .before .before .before .e2 .given .1) (search needs)
+    let p = c .before .before .before .before .before .before .before in
+    let f = is-last reportKinds report-apart _ _ _ _ (p .before .before .report-line .ensures) _ _ 1 (p .k .given .1) refl
+    (omega (arith, c .before .before .before .before .match2 .rest .1)) in
+    log-kind (p .before .before .before .before .before .loop .inv) (search needs) f _ (c .before .before .entry-from .ensures)
+    (sym (c .before .is-operation .ensures) ∙ not-true _ (c .if5 .taken))
+
+returns-7 : tie.Need-returns-7 Inv-loop μ-loop
+returns-7 c =
+    let p = c .before .before .before .before .before .before .before .before in
+    let f = is-last reportKinds report-apart _ _ _ _ (p .before .before .report-line .ensures) _ _ 1 (p .k .given .1) refl
+    (omega (arith, c .before .before .before .before .before .match2 .rest .1)) in
+    log-full (p .before .before .before .before .before .loop .inv) (search needs) f _ (c .before .before .before .entry-from .ensures)
+    (sym (c .before .before .is-operation .ensures) ∙ not-false _ (c .before .if5 .left)) (search needs)
 
 add-n : tie.Need-add-n Inv-loop μ-loop
 add-n c =
-    let r = c .before .before .before .before .before .before .before .before .before .before .before .loop .inv in
+    let r = c .before .before .before .before .before .before .before .before .before .before .before .before .before .before .before .loop .inv in
     omega (arith, r .fewOfs, r .fewEntries)
 
 loop-less-2 : tie.Need-loop-less-2 Inv-loop μ-loop
 loop-less-2 c =
-    omega (
-      arith,
-      log-adds (c .before .before .before .before .before .before .before .before .before .before .before .loop .inv)
-          (search needs) _ _ (c .before .before .before .before .before .before .before .before .report-line .ensures) _
-          (c .before .before .before .before .before .before .e2 .given .1) .end,
-    )
+    let p = c .before .before .before .before .before .before .before .before .before .before in
+    let f = is-known reportKinds report-apart _ _ _ _ (p .before .before .report-line .ensures) _ _ _ (p .k .given .1) refl in
+    omega (arith, f .end)
 
 loop-again-2 : tie.Need-loop-again-2 Inv-loop μ-loop
 loop-again-2 c =
-    log-on (c .before .before .before .before .before .before .before .before .before .before .before .loop .inv) (search needs) _ _
-    (c .before .before .before .before .before .before .before .before .report-line .ensures) _
-    (c .before .before .before .before .before .before .e2 .given .1) (search needs) (search needs) _ (c .put-entry .ensures)
+    let p = c .before .before .before .before .before .before .before .before .before .before in
+    let f = is-last reportKinds report-apart _ _ _ _ (p .before .before .report-line .ensures) _ _ 1 (p .k .given .1) refl
+    (omega (arith, c .before .before .before .before .before .before .before .match2 .rest .1)) in
+    log-on (p .before .before .before .before .before .loop .inv) (search needs) f _ (c .before .before .before .before .before .entry-from .ensures)
+    (sym (c .before .before .before .before .is-operation .ensures) ∙ not-false _ (c .before .before .before .if5 .left)) (search needs) (search needs) _ (c .put-entry .ensures)
 
-returns-7 : tie.Need-returns-7 Inv-loop μ-loop
-returns-7 c =
-    held-neither (c .before .before .before .before .before .loop .inv) (search needs) _ _ (c .before .before .report-line .ensures)
-    (c .enum-told .given .1)
+-- ── the end ──
 
 returns-8 : tie.Need-returns-8 Inv-loop μ-loop
 returns-8 c = held-done (c .before .loop .inv) (search needs)
@@ -127,22 +144,24 @@ read-report-spec =
     add-line-2
     (λ c κs. search needs)
     (λ c. search needs)
+    (λ c. search needs)
     returns-2
     returns-3
     returns-4
+    returns-5
+    (λ c κs. search needs)
     (λ c κs. search needs)
     add-m
     (λ c. search needs)
     loop-less
     loop-again
-    (λ c. search needs)
-    returns-5
+    (λ c κs. search needs)
+    (λ c κs. search needs)
     returns-6
+    returns-7
     (λ c κs. search needs)
     add-n
     (λ c. search needs)
     loop-less-2
     loop-again-2
-    (λ c. search needs)
-    returns-7
     returns-8)

@@ -8,10 +8,10 @@ returns : tie.Need-returns
 returns c = move-out _ _ _ (search needs) (search needs)
 
 returns-2 : tie.Need-returns-2
-returns-2 c = move-turn _ _ _ _ (c .before .wide .ensures) (search needs)
+returns-2 c = move-turn _ _ _ _ (c .before .number-of .ensures) (search needs)
 
 returns-3 : tie.Need-returns-3
-returns-3 c = move-arrive _ _ _ _ (c .before .before .before .before .before .wide .ensures) (search needs)
+returns-3 c = move-arrive _ _ _ _ (c .before .before .before .before .before .number-of .ensures) (search needs)
 
 pub move-at-spec : {M : Type 1} → statement M
 move-at-spec =

@@ -3,10 +3,10 @@ use Prim.Native.Nat.{_≤_, min}
 use mathlib.Core.Path.{_≡_, refl, ap, _∙_}
 use native.Mathlib.Omega.{arith}
 use borrow.Author.Needs.{needs}
+use Rattle.basics.specs.Scans.{Heads}
+use Rattle.basics.proofs.Scans.{heads-start, heads-less}
 use Rattle.text.specs.Held.{ofAt}
-use Rattle.text.specs.Scans.{Heads}
 use Rattle.text.specs.Slots.{slotBucket}
-use Rattle.text.proofs.ScanLaws.{heads-start, heads-less}
 use Rattle.text.proofs.slots.first_slots.Statement.{statement}
 use Rattle.text.proofs.slots.first_slots.Tie as tie
 
@@ -18,7 +18,7 @@ abbrev μ-loop : tie.MeasureT-loop
 
 loop-holds : tie.Need-loop-holds Inv-loop μ-loop
 loop-holds c =
-    rw (c .at-most-64 .ensures) (omega arith, heads-start (λ i. slotBucket (ofAt _ i .rid)) 256 _ 64 (omega arith) _ refl)
+    rw (c .least .ensures) (omega arith, heads-start (λ i. slotBucket (ofAt _ i .rid)) 256 _ 64 (omega arith) _ refl)
 
 loop-again : tie.Need-loop-again Inv-loop μ-loop
 loop-again c =

@@ -7,9 +7,9 @@ use lib.ListN.{getD}
 use borrow.Author.Count.{below-more}
 use borrow.Author.Needs.{needs}
 use borrow.Author.Tests.{eq-eqb, ne-eqb}
+use Rattle.basics.proofs.Scans.{Passed, here, nowhere}
 use Rattle.text.specs.Held.{ofAt}
 use Rattle.text.specs.Slots.{slotBucket}
-use Rattle.text.proofs.ScanLaws.{Passed, here, nowhere}
 use Rattle.text.proofs.slots.slot_of.Statement.{statement}
 use Rattle.text.proofs.slots.slot_of.Tie as tie
 
@@ -23,7 +23,7 @@ abbrev μ-loop : tie.MeasureT-loop
 loop-holds : tie.Need-loop-holds Inv-loop μ-loop
 loop-holds c =
     let a = c .before .before .before .args in
-    let e = c .wide .ensures ∙ ap (λ b. getD (a .heads .now) b 0) (c .before .before .bucket .ensures) in
+    let e = c .index-of-byte .ensures ∙ ap (λ b. getD (a .heads .now) b 0) (c .before .before .bucket .ensures) in
     (omega (arith, e), λ k l a. absurd (omega (arith, e)))
 
 returns : tie.Need-returns Inv-loop μ-loop

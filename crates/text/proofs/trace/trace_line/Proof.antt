@@ -1,19 +1,30 @@
 -- `text::trace::trace_line` meets its contract.
+use native.Mathlib.Omega.{arith}
 use Rattle.text.specs.Formats.{requestLine, responseLine}
-use Rattle.text.proofs.Alternatives.{told-first, told-second}
+use Rattle.text.specs.Trace.{traceKinds}
+use Rattle.text.proofs.LineKinds.{told-known, told-unknown, missed}
+use Rattle.text.proofs.TraceReading.{trace-apart}
 use borrow.Author.Needs.{needs}
 use Rattle.text.proofs.trace.trace_line.Statement.{statement}
 use Rattle.text.proofs.trace.trace_line.Tie as tie
 
 returns : tie.Need-returns
-returns c = told-first requestLine responseLine _ _ _ _ _ _ _ (c .before .e .given .1) (c .before .before .before .line-at .ensures)
+returns c =
+    told-known traceKinds trace-apart _ _ 0 (omega arith) _ _ _
+    (c .before .e .given .1) (c .before .before .before .line-at .ensures)
 
 returns-2 : tie.Need-returns-2
 returns-2 c =
-    told-second requestLine responseLine _ _ _ _ _ _ _ _ _
-    (c .before .before .before .before .before .before .enum-told .given .1)
-    (c .before .before .before .before .before .before .before .before .line-at .ensures) (c .second .ensures)
-    (c .before .line-at2 .ensures)
+    told-known traceKinds trace-apart _ _ 1 (omega arith) _ _ _
+    (c .before .e2 .given .1) (c .before .before .before .line-at2 .ensures)
+
+returns-3 : tie.Need-returns-3
+returns-3 c =
+    let p = c .before .before .before .before .before .before .before in
+    told-unknown traceKinds _ _ _ (
+      missed requestLine _ _ _ _ _ (p .enum-told .given .1) (p .before .before .line-at .ensures),
+      (missed responseLine _ _ _ _ _ (c .enum-told2 .given .1) (c .before .before .line-at2 .ensures), tt),
+    )
 
 pub trace-line-spec : {M : Type 1} → statement M
 trace-line-spec =
@@ -22,9 +33,11 @@ trace-line-spec =
     (λ c. search needs)
     (λ c κs. search needs)
     (λ c. search needs)
-    (λ c. search needs)
-    (λ c. search needs)
-    (λ c κs. search needs)
-    (λ c κs. search needs)
     returns
-    returns-2)
+    (λ c. search needs)
+    (λ c. search needs)
+    (λ c κs. search needs)
+    (λ c. search needs)
+    returns-2
+    (λ c. search needs)
+    returns-3)

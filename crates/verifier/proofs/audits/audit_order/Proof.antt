@@ -1,6 +1,8 @@
 -- `audit_order` meets its contract.
 use native.Mathlib.Omega.{arith}
 use borrow.Author.Tests.{not-true, not-false}
+use mathlib.Core.Path.{refl}
+use Rattle.replay.specs.Arrays.{arrays}
 use Rattle.verifier.proofs.OrderFilling.{ordered, ordered-none, ordered-refused}
 use Rattle.verifier.proofs.Verdicts.{Found, at-1, at-2, at-3, at-4-to-7, past-4-to-7}
 use borrow.Author.Needs.{needs}
@@ -62,8 +64,11 @@ returns-4 c =
 
 -- behind rows 8 to 12
 module _ (c : tie.After-result) where
+  abbrev at-registers : tie.After-registers
+  at-registers = c .before .before .before .before
+
   abbrev at-m : tie.After-m
-  at-m = c .before .before .before .before .before .before
+  at-m = at-registers .before .before .before .before .before
 
   abbrev b : tie.After-check-batch
   b = at-m .before .before
@@ -73,15 +78,15 @@ module _ (c : tie.After-result) where
 
   found :
       let texts = start r .args in
-      let arrays = b .check-batch .last .1 .1 .1 .1 in
+      let lent = b .check-batch .last .1 .1 .1 .1 in
       let m = at-m .m .given .0 .0 in
       let n = at-m .m .given .0 .1 .0 in
       Found (texts .programs .now) (texts .trace .now) (texts .report .now)
-      (r .read-trace .last .1 .0) (at-t b .t .given .0 .0) (arrays .0) m (arrays .1 .0) n (c .result .result)
+      (arrays (r .read-trace .last .1 .0) (at-t b .t .given .0 .0) (lent .0) m (lent .1 .0) n) (c .result .result)
   found =
       past-4-to-7 _ _ _ _ (at-read-programs r .read-programs .ensures) (not-false _ (at-if1 r .if1 .left)) _
       (at-check-rules r .check-rules .ensures) (at-enum-told r .enum-told .given .1) _ _ (r .read-trace .ensures) _ (at-t b .t .given .1)
-      _ _ (b .check-batch .result) (b .check-batch .ensures) _ _ (at-m .m .given .1) _ _ (c .result .ensures) (c .before .judge .ensures)
+      _ _ (b .check-batch .result) (b .check-batch .ensures) _ _ (at-m .m .given .1) _ _ (c .result .ensures) _ refl (c .before .judge .ensures)
 
 returns-5 : tie.Need-returns-5
 returns-5 c =

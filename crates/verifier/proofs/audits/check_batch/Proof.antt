@@ -1,6 +1,5 @@
 -- `check_batch` meets its contract.
 use native.Mathlib.Omega.{arith}
-use Rattle.verifier.specs.Steps.{eventsIn}
 use Rattle.machine.proofs.Rulings.{broken, kept}
 use Rattle.verifier.proofs.Verdicts.{refused-4, refused-4-open, refused-5, report-few, past-report}
 use borrow.Author.Needs.{needs}
@@ -12,7 +11,7 @@ returns c =
     let at-row-4 = c .before .before .before in
     let a = at-row-4 .before .before .args in (
       λ e. omega arith,
-      refused-4 (a .programs) (eventsIn (a .events .now) (a .t)) (a .report .now) _
+      refused-4 (a .programs) (a .events .now) (a .t) (a .report .now) _
           (broken _ _ _ (at-row-4 .row-4 .ensures) (c .before .line .given .1)),
     )
 
@@ -23,7 +22,7 @@ returns-2 c =
     let at-row-4 = at-enum-told .before .before in
     let a = at-row-4 .before .before .args in (
       λ e. omega arith,
-      refused-4-open (a .programs) (eventsIn (a .events .now) (a .t)) (a .report .now)
+      refused-4-open (a .programs) (a .events .now) (a .t) (a .report .now)
           (kept _ _ (at-row-4 .row-4 .ensures) (at-enum-told .enum-told .given .1)) _
           (broken _ _ _ (at-row-4-open .row-4-open .ensures) (c .before .line2 .given .1)),
     )
@@ -37,7 +36,7 @@ returns-3 c =
     let at-row-4 = at-enum-told .before .before in
     let a = at-row-4 .before .before .args in (
       λ e. omega arith,
-      refused-5 (a .programs) (eventsIn (a .events .now) (a .t)) (a .report .now)
+      refused-5 (a .programs) (a .events .now) (a .t) (a .report .now)
           (kept _ _ (at-row-4 .row-4 .ensures) (at-enum-told .enum-told .given .1))
           (kept _ _ (at-row-4-open .row-4-open .ensures) (at-enum-told2 .enum-told2 .given .1)) _ _ _ (at-read-report .read-report .ensures) _
           (c .before .line3 .given .1),
@@ -57,7 +56,7 @@ returns-4 c =
     let at-enum-told = at-row-4-open .before in
     let at-row-4 = at-enum-told .before .before in
     let a = at-row-4 .before .before .args in
-    past-report (a .programs) (eventsIn (a .events .now) (a .t)) (a .report .now)
+    past-report (a .programs) (a .events .now) (a .t) (a .report .now)
     (kept _ _ (at-row-4 .row-4 .ensures) (at-enum-told .enum-told .given .1))
     (kept _ _ (at-row-4-open .row-4-open .ensures) (at-enum-told2 .enum-told2 .given .1)) _ _ _ (at-read-report .read-report .ensures) _ _
     (at-m .m .given .1) (c .check-report .result) (c .check-report .ensures)

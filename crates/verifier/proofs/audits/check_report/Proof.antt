@@ -14,7 +14,7 @@ returns c =
     let at-row-6 = c .before .before .before in
     let a = at-row-6 .before .args in (
       λ e. omega arith,
-      λ table. at-6 table (eventsIn (a .events .now) (a .t)) (reportOf (a .ofs .now) (a .m) (a .logs .now) (a .n)) _
+      λ opening table. at-6 opening table (eventsIn (a .events .now) (a .t)) (reportOf (a .ofs .now) (a .m) (a .logs .now) (a .n)) _
           (broken _ _ _ (at-row-6 .row-6 .ensures) (c .before .line .given .1)),
     )
 
@@ -25,7 +25,7 @@ returns-2 c =
     let at-row-6 = at-enum-told .before .before in
     let a = at-row-6 .before .args in (
       λ e. omega arith,
-      λ table. at-7 table (eventsIn (a .events .now) (a .t)) (reportOf (a .ofs .now) (a .m) (a .logs .now) (a .n))
+      λ opening table. at-7 opening table (eventsIn (a .events .now) (a .t)) (reportOf (a .ofs .now) (a .m) (a .logs .now) (a .n))
           (kept _ _ (at-row-6 .row-6 .ensures) (at-enum-told .enum-told .given .1)) _
           (broken _ _ _ (at-row-7 .row-7 .ensures) (c .before .line2 .given .1)),
     )

@@ -24,8 +24,8 @@ put-item-requires c κs =
 loop-again : tie.Need-loop-again Inv-loop μ-loop
 loop-again c =
     let at-entry-at = c .before .before .before .before in
-    let at-wide = at-entry-at .before .before in
-    λ events. filling-operation events _ _ _ _ _ _ _ _ (at-wide .before .before .before .loop .inv events) (search needs) _ (at-wide .wide .ensures) (search needs)
+    let at-index-of = at-entry-at .before .before in
+    λ events. filling-operation events _ _ _ _ _ _ _ _ (at-index-of .before .before .before .loop .inv events) (search needs) _ (at-index-of .index-of .ensures) (search needs)
     _ (at-entry-at .entry-at .ensures) _ (c .before .before .put-item .ensures)
 
 add-line : tie.Need-add-line Inv-loop μ-loop
@@ -40,8 +40,8 @@ put-item-requires-2 c κs =
 
 loop-again-2 : tie.Need-loop-again-2 Inv-loop μ-loop
 loop-again-2 c =
-    let at-wide = c .before .before .before .before .before in
-    λ events. filling-event events _ _ _ _ _ _ _ _ (at-wide .before .before .before .loop .inv events) (search needs) _ (at-wide .wide .ensures) (search needs)
+    let at-index-of = c .before .before .before .before .before in
+    λ events. filling-event events _ _ _ _ _ _ _ _ (at-index-of .before .before .before .loop .inv events) (search needs) _ (at-index-of .index-of .ensures) (search needs)
     _ (c .before .before .put-item2 .ensures)
 
 same-length : tie.Need-same-length Inv-loop μ-loop

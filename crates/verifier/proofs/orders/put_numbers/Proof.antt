@@ -6,10 +6,10 @@ use Rattle.verifier.proofs.orders.put_numbers.Statement.{statement}
 use Rattle.verifier.proofs.orders.put_numbers.Tie as tie
 
 returns : tie.Need-returns
-returns c = λ items is. put-none _ _ _ _ _ _ _ items is (c .if1 .taken)
+returns c = λ items is. put-none _ _ items is (c .if1 .taken)
 
 returns-2 : tie.Need-returns-2
-returns-2 c = λ items is. put-no-room _ _ _ _ _ _ _ items is (search needs)
+returns-2 c = λ items is. put-no-room _ _ items is (search needs)
 
 fill-items-requires : tie.Need-fill-items-requires
 fill-items-requires c κs =
@@ -20,7 +20,7 @@ returns-3 : tie.Need-returns-3
 returns-3 c =
     let at-fill-items = c .before .before in
     let at-order-items = at-fill-items .before .before .before in
-    λ items is. put-placed _ _ _ _ _ _ _ items is (search needs) _ (at-order-items .order-items .ensures) _ (at-fill-items .fill-items .ensures _)
+    λ items is. put-placed _ _ items is (search needs) _ (at-order-items .order-items .ensures) _ (at-fill-items .fill-items .ensures _)
 
 pub put-numbers-spec : {M : Type 1} → statement M
 put-numbers-spec =

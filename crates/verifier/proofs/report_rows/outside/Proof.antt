@@ -1,5 +1,5 @@
 -- `outside` meets its contract.
-use Rattle.text.proofs.ScanLaws.{slot-first}
+use Rattle.text.proofs.SlotLaws.{slot-first}
 use Rattle.verifier.proofs.ReportScans.{slot-none, slot-zero, slot-count}
 use borrow.Author.Needs.{needs}
 use Rattle.verifier.proofs.report_rows.outside.Statement.{statement}

@@ -4,8 +4,8 @@ use mathlib.Core.Path.{sym, ap, _∙_}
 use mathlib.Core.Bool.{not}
 use mathlib.Core.Logic.{⊎-elim}
 use native.Mathlib.Omega.{arith}
+use Rattle.basics.specs.Firsts.{firsts}
 use Rattle.text.specs.Held.{eventAt}
-use Rattle.text.specs.Rows.{firsts}
 use Rattle.model.specs.Requests.{unanswered}
 use Rattle.model.proofs.LineScans.{Scanned, scan-start, scan-on, scan-bad, scan-end}
 use Rattle.verifier.proofs.TraceScans.{settled-event}

@@ -7,14 +7,14 @@ use Rattle.writing.proofs.orders.put_order.Statement.{statement}
 use Rattle.writing.proofs.orders.put_order.Tie as tie
 
 returns : tie.Need-returns
-returns c = rw (← items-texts _ _ _ (c .before .before .at-most-1152 .ensures)) (put-short _ _ (omega (arith, c .before .widths .ensures .0)))
+returns c = rw (← items-texts _ _ _ (c .before .before .least .ensures)) (put-short _ _ (omega (arith, c .before .widths .ensures .0)))
 
 fill-requires : tie.Need-fill-requires
-fill-requires c κs = (omega (arith, c .before .before .before .at-most-1152 .ensures), omega (arith, c .before .before .widths .ensures .0))
+fill-requires c κs = (omega (arith, c .before .before .before .least .ensures), omega (arith, c .before .before .widths .ensures .0))
 
 returns-2 : tie.Need-returns-2
 returns-2 c =
-    rw (← items-texts _ _ _ (c .before .before .before .before .before .before .at-most-1152 .ensures))
+    rw (← items-texts _ _ _ (c .before .before .before .before .before .before .least .ensures))
     (put-fits _ _ _ _ (omega (arith, c .before .before .before .before .before .widths .ensures .0))
     (c .before .before .fill .ensures .0) (c .before .before .fill .ensures .1))
 

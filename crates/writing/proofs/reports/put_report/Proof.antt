@@ -8,17 +8,17 @@ use Rattle.writing.proofs.reports.put_report.Statement.{statement}
 use Rattle.writing.proofs.reports.put_report.Tie as tie
 
 add-l : tie.Need-add-l
-add-l c = omega (arith, c .at-most2 .ensures, c .before .at-most .ensures)
+add-l c = omega (arith, c .least2 .ensures, c .before .least .ensures)
 
 widths-requires : tie.Need-widths-requires
-widths-requires c κs = omega (arith, c .at-most2 .ensures, c .before .at-most .ensures)
+widths-requires c κs = omega (arith, c .least2 .ensures, c .before .least .ensures)
 
 returns : tie.Need-returns
 returns c =
     let a = c .before .before .before .before .before .args in
     rw
-    (← report-first (now (a .ofs)) _ _ (now (a .logs)) _ _ (c .before .before .before .at-most .ensures)
-    (c .before .before .at-most2 .ensures))
+    (← report-first (now (a .ofs)) _ _ (now (a .logs)) _ _ (c .before .before .before .least .ensures)
+    (c .before .before .least2 .ensures))
     (put-short _ _ (omega (arith, c .before .widths .ensures)))
 
 fill-requires : tie.Need-fill-requires
@@ -30,8 +30,8 @@ returns-2 c =
     let f = c .before .before .fill in
     rw
     (← report-first (now (a .ofs)) _ _ (now (a .logs)) _ _
-    (c .before .before .before .before .before .before .before .at-most .ensures)
-    (c .before .before .before .before .before .before .at-most2 .ensures))
+    (c .before .before .before .before .before .before .before .least .ensures)
+    (c .before .before .before .before .before .before .least2 .ensures))
     (put-fits _ _ _ _ (omega (arith, c .before .before .before .before .before .widths .ensures)) (f .ensures .0) (f .ensures .1))
 
 pub put-report-spec : {M : Type 1} → statement M

@@ -8,13 +8,13 @@ use Rattle.writing.proofs.reports.report_width.Statement.{statement}
 use Rattle.writing.proofs.reports.report_width.Tie as tie
 
 add-widths : tie.Need-add-widths
-add-widths c = omega (arith, c .at-most2 .ensures, c .before .at-most .ensures)
+add-widths c = omega (arith, c .least2 .ensures, c .before .least .ensures)
 
 widths-requires : tie.Need-widths-requires
-widths-requires c κs = omega (arith, c .at-most2 .ensures, c .before .at-most .ensures)
+widths-requires c κs = omega (arith, c .least2 .ensures, c .before .least .ensures)
 
 returns : tie.Need-returns
-returns c = c .widths .ensures ∙ ap length (report-first _ _ _ _ _ _ (c .before .before .at-most .ensures) (c .before .at-most2 .ensures))
+returns c = c .widths .ensures ∙ ap length (report-first _ _ _ _ _ _ (c .before .before .least .ensures) (c .before .least2 .ensures))
 
 pub report-width-spec : {M : Type 1} → statement M
 report-width-spec =

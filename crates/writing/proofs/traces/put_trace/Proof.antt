@@ -7,14 +7,14 @@ use Rattle.writing.proofs.traces.put_trace.Statement.{statement}
 use Rattle.writing.proofs.traces.put_trace.Tie as tie
 
 returns : tie.Need-returns
-returns c = rw (← trace-texts _ _ _ (c .before .before .at-most-128 .ensures)) (put-short _ _ (omega (arith, c .before .widths .ensures)))
+returns c = rw (← trace-texts _ _ _ (c .before .before .least .ensures)) (put-short _ _ (omega (arith, c .before .widths .ensures)))
 
 fill-requires : tie.Need-fill-requires
-fill-requires c κs = (omega (arith, c .before .before .before .at-most-128 .ensures), omega (arith, c .before .before .widths .ensures))
+fill-requires c κs = (omega (arith, c .before .before .before .least .ensures), omega (arith, c .before .before .widths .ensures))
 
 returns-2 : tie.Need-returns-2
 returns-2 c =
-    rw (← trace-texts _ _ _ (c .before .before .before .before .before .before .at-most-128 .ensures))
+    rw (← trace-texts _ _ _ (c .before .before .before .before .before .before .least .ensures))
     (put-fits _ _ _ _ (omega (arith, c .before .before .before .before .before .widths .ensures))
     (c .before .before .fill .ensures .0) (c .before .before .fill .ensures .1))
 

@@ -1,0 +1,69 @@
+-- Laws of the codes' numbers. That the operations are 6 to 9 is for functions that test the range; what is said elsewhere rests on
+-- `isOperation` alone.
+use Prim.Native.Nat.{ℕ, _-_, _≤_, _<_}
+use mathlib.Core.Bool.{Bool, true, false, _&&_, false≢true}
+use mathlib.Core.List.{[], _∷_, map}
+use mathlib.Core.Path.{_≡_, refl, sym, ap, _∙_}
+use native.Mathlib.Omega.{arith}
+use borrow.Author.Tests.{leb-true, le-leb, lt-leb, ltb-true, ltb-false}
+use lib.Dec.{leb}
+use lib.ListN.{getD, length, List·getD-map, List·getD-eq-default}
+use Rattle.basics.specs.Firsts.{firsts}
+use Rattle.basics.proofs.Firsts.{firsts-at}
+use Rattle.lines.specs.Line.{Format, InRanges, any, upTo}
+use Rattle.text.specs.Codes.{Code, other, codes, isCode, codeOf, operates, isOperation}
+use Rattle.text.specs.Formats.{rid, logLine}
+use Rattle.text.specs.Written.{entryNumbers, EntryIn}
+use Rattle.text.specs.declared.report.Entry.{Entry}
+
+-- a test of codes is a test of their numbers that has the same answers in the table and past its end
+by-table : (f : Code → Bool) (g : ℕ → Bool) → map f codes ≡ firsts g (length codes) → ((n : ℕ) → length codes ≤ n → f other ≡ g n) →
+    (n : ℕ) → f (codeOf n) ≡ g n
+by-table f g same past n = by (isCode n) refl
+  where
+    by : (b : Bool) → isCode n ≡ b → f (codeOf n) ≡ g n
+    by true t =
+        sym (List·getD-map f codes n other)
+        ∙ ap (λ t. getD t n (f other)) same
+        ∙ firsts-at g (length codes) n (f other) (ltb-true n (length codes) t)
+    by false t = let h = ltb-false n (length codes) t in ap f (List·getD-eq-default codes other h) ∙ past n h
+
+in-range : (k : ℕ) → isOperation k ≡ leb 6 k && leb k 9
+unfolding firsts
+in-range = by-table operates (λ k. leb 6 k && leb k 9) refl (λ k h. rw (le-leb 6 k (omega arith), lt-leb k 9 (omega arith)))
+
+pub operation-range : (k : ℕ) → isOperation k ≡ true → (6 ≤ k) × (k ≤ 9)
+operation-range k h = go (leb 6 k) refl (sym (in-range k) ∙ h)
+  where
+    go : (b : Bool) → leb 6 k ≡ b → b && leb k 9 ≡ true → (6 ≤ k) × (k ≤ 9)
+    go true e h = (leb-true 6 k e, leb-true k 9 h)
+    go false e h = absurd (false≢true h)
+
+pub range-operation : (k : ℕ) → 6 ≤ k → k ≤ 9 → isOperation k ≡ true
+range-operation k h g = in-range k ∙ rw (le-leb 6 k h, le-leb k 9 g) refl
+
+pub not-operation : (k : ℕ) → (6 ≤ k → k ≤ 9 → ⊥) → isOperation k ≡ false
+not-operation k n = go (isOperation k) refl
+  where
+    go : (b : Bool) → isOperation k ≡ b → isOperation k ≡ false
+    go true e = let o = operation-range k e in absurd (n (o .0) (o .1))
+    go false e = e
+
+-- an operation has a code
+pub operation-code : (k : ℕ) → isOperation k ≡ true → k < length codes
+operation-code k h = by (isCode k) refl
+  where
+    by : (b : Bool) → isCode k ≡ b → k < length codes
+    by true t = ltb-true k (length codes) t
+    by false t = absurd (false≢true (sym (ap operates (List·getD-eq-default codes other (ltb-false k (length codes) t))) ∙ h))
+
+-- a log line whose kind is in a range as its other fields are
+abbrev pub narrowLog : Format
+narrowLog = record { word = logLine .word; ranges = upTo 15 ∷ rid ∷ upTo 256 ∷ upTo (length codes - 1) ∷ any ∷ any ∷ [] }
+
+pub entry-range : (l : Entry) → EntryIn l → InRanges (narrowLog .ranges) (entryNumbers l)
+entry-range l h =
+    let f = h .fields in
+    let k = f .1 .1 .1 in
+    let below = operation-code (l .op .kind) (h .operation) in
+    (f .0, (f .1 .0, (f .1 .1 .0, (record { above = k .0 .above; below = omega arith; fits = k .0 .fits }, k .1))))
