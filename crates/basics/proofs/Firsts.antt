@@ -1,14 +1,10 @@
 -- Laws of the first n items of a sequence: how many they are, what stands at a place, and what holds of all of them.
 use Prim.Native.Nat.{ℕ, zero, suc, _+_, _-_, _<_}
 use mathlib.Core.List.{List, [], _∷_, _++_, List·Memᴰ, List·Memᴰ·head, List·Memᴰ·tail}
-use mathlib.Core.Path.{_≡_, refl, sym, _∙_, ap}
+use mathlib.Core.Path.{_≡_, refl, _∙_, ap}
 use native.Mathlib.Numerals.{add-one}
 use native.Mathlib.Omega.{arith}
-use lib.ListN.{length, getD, length-append, set, length-set}
-use mathlib.Core.Bool.{Bool, true, false}
-use borrow.Author.Tests.{eqb-true, eqb-false}
-use lib.Dec.{eqb}
-use lib.Seq.{getD-set-same, getD-set-other}
+use lib.ListN.{length, getD, length-append}
 use Rattle.basics.specs.Lists.{All}
 use Rattle.basics.specs.Firsts.{firsts}
 
@@ -59,24 +55,6 @@ module _ {A : Type 0} where
       firsts f (n + 1) ≡ firsts g n ++ x ∷ []
   unfolding firsts
   firsts-more f g n x h e = rw add-one (λ i. firsts-same f g n h i ++ e i ∷ [])
-
-  -- one record is another, and the others stay
-  pub firsts-set : (f g : ℕ → A) (n i : ℕ) (x : A) → i < n → g i ≡ x → ((j : ℕ) → j < n → (j ≡ i → ⊥) → g j ≡ f j) →
-      firsts g n ≡ set (firsts f n) i x
-  firsts-set f g n i x h e d =
-      let ys = set (firsts f n) i x in
-      let l : length ys ≡ n = length-set (firsts f n) i x ∙ firsts-length f n in
-      firsts-same g (λ k. getD ys k x) n (λ k j. at k j (eqb k i) refl)
-      ∙ ap (firsts (λ k. getD ys k x)) (sym l) ∙ firsts-getD ys x
-    where
-      at : (k : ℕ) → k < n → (b : Bool) → eqb k i ≡ b → g k ≡ getD (set (firsts f n) i x) k x
-      at k j true q =
-          let z : k ≡ i = eqb-true k i q in
-          ap g z ∙ e ∙ sym (getD-set-same (firsts f n) i x x (omega (arith, h, firsts-length f n)))
-          ∙ ap (λ m. getD (set (firsts f n) i x) m x) (sym z)
-      at k j false q =
-          let z = eqb-false k i q in
-          d k j z ∙ sym (getD-set-other (firsts f n) i k x x z ∙ firsts-at f n k x j)
 
 -- what holds of all of them holds of each, and the other way round
 pub firsts-all : {A : Type 0} (P : A → Type 0) (f : ℕ → A) (n i : ℕ) → All P (firsts f n) → i < n → P (f i)

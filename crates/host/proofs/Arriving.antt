@@ -29,7 +29,7 @@ use Rattle.host.specs.Runs.{missing, seenSlot, M, seen, RidIn}
 use Rattle.host.specs.declared.steps.Counts.{Counts}
 use Rattle.host.specs.declared.steps.Step.the-variants.{Broken, On}
 use Rattle.host.specs.declared.steps.Step.{Step}
-use Rattle.host.proofs.LogLines.{event-joins}
+use Rattle.host.proofs.Joining.{event-joins}
 use Rattle.host.proofs.Running.{
   left,
   whole,

@@ -1,7 +1,8 @@
--- What the host comes to on texts (Main). The worked schedules, computed (Stars); what was read is in range (Readings); what is written stands in front of
--- the buffers (Fronts), is accepted (Acceptance) and printed (PrintedTexts);
--- and the laws that functions rest on: of row 16 (Fitting), of the log by object (Picking, Sorting), of the program table
--- in numbers (Tables).
+-- What the host comes to on texts (Main). The worked schedules, computed (Stars); what was read is in range (Readings); what is written stands
+-- in front of the buffers (Fronts), reads back (ReadBack), is accepted (Acceptance) and printed (PrintedTexts); a refusal has a number of its
+-- own (Numbering). And the laws that functions rest on: of row 16 (Fitting), of the log by object (Picking, Sorting), of the program table in
+-- numbers (Tables), of what a line of the schedule does to what is kept (States, Promises, Slots, Joining), and of the run, line by line
+-- (Running, Arriving; a turn: Turning, Replying, Operating, Turned) and at its end (Finishing, Recording).
 pub mod Main
 mod Stars
 pub mod Readings
@@ -17,7 +18,7 @@ pub mod States
 pub mod Tables
 pub mod Promises
 pub mod Slots
-pub mod LogLines
+pub mod Joining
 pub mod Running
 pub mod Arriving
 pub mod Turning

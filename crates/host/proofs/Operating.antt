@@ -35,7 +35,7 @@ use Rattle.host.specs.Requests.{stateNumbers, progressIn, standingIn}
 use Rattle.host.specs.Runs.{going, seenRow, M, seen, LinesIs}
 use Rattle.host.specs.Tables.{Table, codeIn}
 use Rattle.host.specs.declared.requests.Standing.the-variants.{Open}
-use Rattle.host.proofs.LogLines.{line-joins}
+use Rattle.host.proofs.Joining.{line-joins}
 use Rattle.host.proofs.Running.{whole, Running, HostHeld, ObjectsIs}
 use Rattle.host.proofs.Slots.{state-put, both-changed, goes-on}
 use Rattle.host.proofs.Turning as turn

@@ -24,7 +24,7 @@ use Rattle.host.specs.Requests.{stateNumbers, progressIn, standingIn}
 use Rattle.host.specs.Runs.{seenRow, M}
 use Rattle.host.specs.Tables.{Table, codeIn}
 use Rattle.host.specs.declared.requests.Standing.the-variants.{Open}
-use Rattle.host.proofs.LogLines.{event-joins}
+use Rattle.host.proofs.Joining.{event-joins}
 use Rattle.host.proofs.Running.{Running, HostHeld}
 use Rattle.host.proofs.Slots.{state-put, state-changed, rids-response, goes-on}
 use Rattle.host.proofs.Turning as turn

@@ -14,11 +14,10 @@ use Rattle.basics.specs.Lists.{All}
 use Rattle.basics.specs.Count.{count}
 use Rattle.basics.specs.Firsts.{firsts}
 use Rattle.basics.proofs.Firsts.{firsts-length}
-use Rattle.basics.proofs.Tests.{clash, byBool}
+use Rattle.basics.proofs.Tests.{byBool}
 use Rattle.text.specs.Held.{eventAt, moveAt}
 use Rattle.text.specs.Rows.{row}
 use Rattle.text.specs.declared.programs.Program.{Program}
-use Rattle.text.specs.declared.schedule.Move.the-variants.{Turn}
 use Rattle.text.specs.declared.schedule.Move.{Move}
 use Rattle.text.specs.declared.trace.Event.the-variants.{Request, Response}
 use Rattle.text.specs.declared.trace.Event.{Event}
@@ -81,13 +80,6 @@ module _ (states : List ℕ) where
       let d : x ≡ Missing = e ∙ rw t refl in
       let h = ltb-false s 64 t in
       subst (λ x. Finds x (suc s)) (sym d) (inr (omega (arith, h))))
-
-pub turn-below : (moves arrivals : List ℕ) (i r : ℕ) → moveAt moves arrivals i ≡ Turn r → r < 65536
-unfolding moveAt
-turn-below moves arrivals i r e =
-    byBool (ltb (getD moves i 0) 65536)
-    (λ t. let e′ = rw t at e in let z : getD moves i 0 ≡ r = cc in subst (λ r. r < 65536) z (ltb-true (getD moves i 0) 65536 t))
-    (λ t. let e′ = rw t at e in clash (cc))
 
 -- the lines of a schedule from line i on, where lines count from 0
 abbrev pub left : (moves arrivals : List ℕ) (n i : ℕ) → List Move

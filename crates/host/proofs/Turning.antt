@@ -16,6 +16,7 @@ use Rattle.text.specs.declared.schedule.Move.the-variants.{Turn}
 use Rattle.text.specs.declared.trace.Event.the-variants.{Response}
 use Rattle.text.specs.Trace.{isRequest, isResponse}
 use Rattle.text.specs.Schedule.{isArrive}
+use Rattle.text.proofs.Ranges.{turn-in}
 use Rattle.model.specs.Host.{Host, broken, on, fault, turnOf, commit, stepped}
 use Rattle.model.specs.PlainRun.{Phase, absent, closed}
 use Rattle.model.proofs.Faithful.{hasArrived, isClosed, add-response}
@@ -32,7 +33,7 @@ use Rattle.host.specs.Runs.{seenSlot, M}
 use Rattle.host.specs.Tables.{Table, codeIn}
 use Rattle.host.specs.declared.requests.Progress.{Progress}
 use Rattle.host.specs.declared.requests.Standing.the-variants.{Missing, Idle, Open}
-use Rattle.host.proofs.Running.{left, whole, Finds, finds, turn-below, HostHeld, Running, requests-are, events-are, breaks, to-come, run-on}
+use Rattle.host.proofs.Running.{left, whole, Finds, finds, HostHeld, Running, requests-are, events-are, breaks, to-come, run-on}
 use Rattle.host.proofs.Slots.{absent-seen, IsOpened, opened-seen, closed-seen}
 
 -- a process that stands in row v goes on as the row does
@@ -49,7 +50,7 @@ module _ {opening : ℕ → Content} {U : List Program} {moves arrivals : List �
   h₀ = g .host
 
   pub rid : r < 65536
-  rid = turn-below moves arrivals i r (sym e)
+  rid = turn-in moves arrivals i r (sym e)
 
   slot-is : getD slots (r % 65536) 0 ≡ getD slots r 0
   slot-is = ap (λ r. getD slots r 0) (mod-eq-of-lt rid)

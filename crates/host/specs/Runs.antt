@@ -1,5 +1,5 @@
 -- The run of a schedule in arrays, and the model's host whose state the arrays hold. What private functions promise.
-use Prim.Native.Nat.{ℕ, zero, suc, _%_, _≤_, _<_, _*_}
+use Prim.Native.Nat.{ℕ, zero, suc, _+_, _%_, _≤_, _<_, _*_}
 use mathlib.Core.Bool.{Bool, false, cond}
 use mathlib.Core.List.{List, [], _∷_}
 use mathlib.Core.Path.{_≡_}
@@ -22,6 +22,7 @@ use Rattle.model.specs.PlainRun.{Phase, absent, opened, closed}
 use Rattle.machine.specs.Instance.{machineOf}
 use Rattle.text.specs.Programs.{known}
 use Rattle.text.specs.Schedule.{isArrive}
+use Rattle.cells.specs.Rows.{mostCells}
 use Rattle.machine.specs.Held.{Objects, ObjectsHeld}
 use Rattle.machine.specs.Objects.{Content}
 use Rattle.host.specs.Memory.{Memory}
@@ -133,7 +134,7 @@ module _ (moves arrivals : List ℕ) (n : ℕ) where
     pub logsRoom : length logs ≡ entryRoom
     pub opening : ℕ → Content
     pub held : ObjectsHeld o opening
-    pub fewCells : o .used ≤ mostEntries
+    pub fewCells : o .used + mostEntries ≤ mostCells
 
 module _ (opening : ℕ → Content) (table : List Program) (moves arrivals : List ℕ) (n : ℕ) where
   -- the arrays hold the state of the host behind the whole schedule

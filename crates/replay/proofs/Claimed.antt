@@ -68,7 +68,7 @@ module _ (logs : List ℕ) (n : ℕ) (answers : List ℕ) (r k s : ℕ) (f : Fir
 -- ── the answers of all lines ──
 pub answers-prepared : (o o′ : Objects) (before answers logs : List ℕ) (n : ℕ) → n ≤ 1024 →
     AnswersAll o (firsts (entryAt logs) (min n 1024)) before o′ answers → length before ≡ 1024 →
-    (opening : ℕ → Content) → ObjectsHeld o opening → o .used ≤ 1024 → AnsweredFrom opening logs n answers
+    (opening : ℕ → Content) → ObjectsHeld o opening → o .used + 1024 ≤ 2048 → AnsweredFrom opening logs n answers
 answers-prepared o o′ before answers logs n few a room opening h low =
     let m : min n 1024 ≡ n = omega arith in
     let ls = firsts (entryAt logs) n in

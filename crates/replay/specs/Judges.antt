@@ -16,6 +16,7 @@ use Rattle.model.specs.Batch.{Batch}
 use Rattle.model.specs.Checks.{verdict, firstFault}
 use Rattle.model.specs.Nodes.{mergeOf}
 use Rattle.machine.specs.Instance.{machineOf}
+use Rattle.cells.specs.Rows.{mostCells}
 use Rattle.machine.specs.Held.{Objects, ObjectsHeld}
 use Rattle.machine.specs.Objects.{Content}
 use Rattle.replay.specs.Arrays.{Arrays, within, batchHeld, nodeAt}
@@ -36,7 +37,7 @@ Judges opening ps a r = (known : ℕ → Bool) → Ready known (batchHeld a) →
 
 -- from the objects that arrays hold, where there is room for a cell of each line
 abbrev pub JudgesFrom : Objects → Programs → Arrays → Fault → Type 0
-JudgesFrom o ps a r = (opening : ℕ → Content) → ObjectsHeld o opening → o .used ≤ mostEntries → Judges opening ps (within a) r
+JudgesFrom o ps a r = (opening : ℕ → Content) → ObjectsHeld o opening → o .used + mostEntries ≤ mostCells → Judges opening ps (within a) r
 
 -- Places in the front of an array are the order of the items. What stands there of a batch that is not ready, or whose order returns to
 -- itself, is left free.

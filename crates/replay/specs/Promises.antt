@@ -22,6 +22,7 @@ use Rattle.model.specs.Batch.{Node, ev, ln}
 use Rattle.model.specs.Replay.{Reply, said, Outcome, differs, ended, Answer, wrong, right, Claim, claim, compare, replay}
 use Rattle.machine.specs.Processes.{limit}
 use Rattle.machine.specs.Instance.{Process, codeAt, machineOf}
+use Rattle.cells.specs.Rows.{mostCells}
 use Rattle.machine.specs.Held.{Objects, ObjectsHeld}
 use Rattle.machine.specs.Logs.{answerAt}
 use Rattle.machine.specs.Objects.{Content}
@@ -86,7 +87,7 @@ pub record Prepared (logs : List ℕ) (n : ℕ) (heads afters : List ℕ) : Type
 -- with the answers, from the objects that arrays hold
 pub record PreparedFrom (o : Objects) (logs : List ℕ) (n : ℕ) (heads afters answers : List ℕ) : Type 0 where
   pub prepared : Prepared logs n heads afters
-  pub answered : (opening : ℕ → Content) → ObjectsHeld o opening → o .used ≤ mostEntries → AnsweredFrom opening logs n answers
+  pub answered : (opening : ℕ → Content) → ObjectsHeld o opening → o .used + mostEntries ≤ mostCells → AnsweredFrom opening logs n answers
 
 -- the arrays for it, before
 pub record Blank (n : ℕ) (heads afters answers : List ℕ) : Type 0 where

@@ -28,7 +28,6 @@ use text::OFS;
 use text::Programs;
 ghost use mathlib.Core.Path.{_≡_};
 ghost use lib.ListN.{length};
-ghost use Rattle.text.specs.Held.{mostItems};
 ghost use Rattle.machine.specs.Held.{objects};
 ghost use Rattle.replay.specs.Arrays.{arrays, within};
 ghost use Rattle.replay.specs.Judges.{JudgesFrom, Orders};
@@ -100,7 +99,7 @@ pub fn order_items(
     n: usize,
     order: &mut [u16; ITEMS],
 )
-    requires { ⌜ length (now order) ≡ mostItems ⌝ }
+    requires { ⌜ length (now order) ≡ 1152 ⌝ }
     ensures { λ _. ⌜ Orders (within (arrays (now (events .entry)) t (now (ofs .entry)) m (now (logs .entry)) n)) (now (order .exit)) ⌝ }
 {
     let t = least(t, EVENTS);

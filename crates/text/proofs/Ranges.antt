@@ -1,5 +1,5 @@
 -- What holds of the numbers of each line, which are in their ranges, holds of all that a readable text holds; so a readable trace and a
--- readable report are in range.
+-- readable report are in range. And the turns of a schedule that is held.
 use Prim.Native.Nat.{ℕ, zero, suc, _+_, _≤_, _<_}
 use mathlib.Core.Bool.{Bool, true, false}
 use mathlib.Core.List.{List, [], _∷_, _++_}
@@ -13,13 +13,14 @@ use lib.ListN.{length, getD, length-append}
 use Rattle.basics.specs.Lists.{All}
 use Rattle.basics.specs.Count.{count}
 use Rattle.basics.proofs.Lists.{count-yes, count-no}
-use Rattle.basics.proofs.Tests.{clash}
+use Rattle.basics.proofs.Tests.{clash, byBool}
 use Rattle.lines.specs.Line.{Range, InRange, InRanges, any, lineOf}
 use Rattle.lines.specs.Parts.{parts}
 use Rattle.lines.specs.Place.{cellsFrom, cells}
 use Rattle.lines.proofs.LineTrip.{line-range}
 use Rattle.text.specs.Text.{Read, readable, unreadable, Kind, within, addLine, readLines, readText}
 use Rattle.text.specs.Codes.{isOperation}
+use Rattle.text.specs.Held.{moveAt}
 use Rattle.text.specs.Formats.{requestLine, responseLine, ofLine, logLine}
 use Rattle.text.specs.Trace.{requestFrom, responseFrom, isRequest, isResponse, addRequest, addResponse, traceKinds, readTrace}
 use Rattle.text.specs.Report.{Report, noLines, ofFrom, entryFrom, addOf, addLog, reportKinds, readReport}
@@ -27,6 +28,7 @@ use Rattle.text.specs.Written.{EventIn, OfIn, EntryIn}
 use Rattle.text.specs.declared.trace.Event.{Event}
 use Rattle.text.specs.declared.trace.Event.the-variants.{Request, Response}
 use Rattle.text.specs.declared.report.Entry.{Entry}
+use Rattle.text.specs.declared.schedule.Move.the-variants.{Turn}
 
 -- ── a fact that each kind of line keeps is kept by a whole text ──
 module _ {S : Type 0} (P : S → Type 0) where
@@ -200,3 +202,11 @@ unfolding readReport
 report-in s r e =
     text-keeps ReportIn reportKinds (of-keeps, (log-keeps, tt)) noLines r s
     (record { ofsIn = tt; logIn = tt; fewOfs = omega arith; fewEntries = omega arith }) e
+
+-- ── a turn of a schedule, as it is held ──
+pub turn-in : (moves arrivals : List ℕ) (i r : ℕ) → moveAt moves arrivals i ≡ Turn r → r < 65536
+unfolding moveAt
+turn-in moves arrivals i r e =
+    byBool (ltb (getD moves i 0) 65536)
+    (λ t. let e′ = rw t at e in let z : getD moves i 0 ≡ r = cc in subst (λ r. r < 65536) z (ltb-true (getD moves i 0) 65536 t))
+    (λ t. let e′ = rw t at e in clash (cc))

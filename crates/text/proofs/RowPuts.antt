@@ -4,9 +4,9 @@ use mathlib.Core.List.{List, [], _∷_, _++_}
 use mathlib.Core.Path.{_≡_, refl, ap, _∙_}
 use native.Mathlib.Omega.{arith}
 use native.Mathlib.Nat.{mod-lt, mod-eq-of-lt, mul-le-mul-right, suc-mul}
-use lib.ListN.{length, set}
+use lib.ListN.{length}
 use Rattle.basics.specs.Firsts.{firsts}
-use Rattle.basics.proofs.Firsts.{firsts-same, firsts-more, firsts-set}
+use Rattle.basics.proofs.Firsts.{firsts-more}
 use Rattle.text.specs.Held.{eventRow, eventFrom, eventAt, withEvent, ofAt, withOf, entryAt, withEntry}
 use Rattle.text.specs.Report.{ofFrom, entryFrom}
 use Rattle.text.specs.Rows.{row, withRow}
@@ -23,13 +23,9 @@ pub record Puts {A : Type 0} (at : List ℕ → ℕ → A) (put : List ℕ → �
   pub same : (a : List ℕ) (i : ℕ) (x : A) → length a ≡ size → at (put a i x) i ≡ x
   -- the other rows stay
   pub other : (a : List ℕ) (i j : ℕ) (x : A) → length a ≡ size → (j % places ≡ i % places → ⊥) → at (put a i x) j ≡ at a j
-  -- row n joins the first n, and leaves those before it
+  -- row n joins the first n
   pub more : (a : List ℕ) (n : ℕ) (x : A) → length a ≡ size → n < places →
       firsts (at (put a n x)) (n + 1) ≡ firsts (at a) n ++ x ∷ []
-  pub before : (a : List ℕ) (n m : ℕ) (x : A) → length a ≡ size → n < places → m ≤ n → firsts (at (put a n x)) m ≡ firsts (at a) m
-  -- row i of the first n is changed, and no other
-  pub change : (a : List ℕ) (n i : ℕ) (x : A) → length a ≡ size → i < n → n ≤ places →
-      firsts (at (put a i x)) n ≡ set (firsts (at a) n) i x
 
 module _ (w N : ℕ) (positive : 0 < N) {A : Type 0} (from : List ℕ → A) (numbers : A → List ℕ)
     (wide : (x : A) → length (numbers x) ≡ w) (back : (x : A) → from (numbers x) ≡ x) where
@@ -68,13 +64,6 @@ module _ (w N : ℕ) (positive : 0 < N) {A : Type 0} (from : List ℕ → A) (nu
             firsts-more (get (put a n x)) (get a) n x
             (λ (j : ℕ). λ (k : j < n). get-rest a l n j x h (omega (arith, h, k)) (λ (e : j ≡ n). absurd (omega (arith, e, k))))
             (get-same a l n x);
-        before = λ a n m x l (h : n < N) (g : m ≤ n).
-            firsts-same (get (put a n x)) (get a) m
-            (λ (j : ℕ). λ (k : j < m).
-            get-rest a l n j x h (omega (arith, h, g, k)) (λ (e : j ≡ n). absurd (omega (arith, e, g, k))));
-        change = λ a n i x l (h : i < n) (g : n ≤ N).
-            firsts-set (get a) (get (put a i x)) n i x h (get-same a l i x)
-            (λ (j : ℕ). λ (k : j < n). λ (d : j ≡ i → ⊥). get-rest a l i j x (omega (arith, h, g)) (omega (arith, g, k)) d);
       }
 
 -- ── the `of` and `log` lines of a report and the events of a trace ──

@@ -3,7 +3,7 @@ ghost use mathlib.Core.Path.{_≡_};
 ghost use lib.ListN.{length};
 ghost use Rattle.lines.specs.Place.{cells};
 ghost use Rattle.text.specs.Report.{ofFrom, entryFrom, reportKinds};
-ghost use Rattle.text.specs.Held.{ofAt, withOf, entryAt, withEntry, ReportIs, entryRoom, ofRoom};
+ghost use Rattle.text.specs.Held.{ofAt, withOf, entryAt, withEntry, ReportIs};
 ghost use Rattle.text.specs.Steps.{kindAt, toldIn};
 use crate::codes::is_operation;
 use crate::kinds::Line;
@@ -146,7 +146,7 @@ pub fn entry_at(logs: &[u64; ENTRY_ROWS], i: usize) -> Entry
 
 // Reads a report into ofs and logs.
 pub fn read_report(s: &[u8], ofs: &mut [u64; OF_ROWS], logs: &mut [u64; ENTRY_ROWS]) -> ReportLines
-    requires { ⌜ (length (now ofs) ≡ ofRoom) × (length (now logs) ≡ entryRoom) ⌝ }
+    requires { ⌜ (length (now ofs) ≡ 192) × (length (now logs) ≡ 6144) ⌝ }
     ensures { λ r. ⌜ ReportIs (now (s .entry)) r (now (ofs .exit)) (now (logs .exit)) ⌝ }
 {
     if TEXT_BYTES < s.len() {

@@ -4,7 +4,7 @@ ghost use mathlib.Core.Path.{_≡_};
 ghost use lib.ListN.{length};
 ghost use Rattle.lines.specs.Place.{cells};
 ghost use Rattle.text.specs.Schedule.{arriveFrom, turnFrom, scheduleKinds};
-ghost use Rattle.text.specs.Held.{moveAt, moveCode, withMove, withArrival, ScheduleIs, arrivalRoom, mostMoves};
+ghost use Rattle.text.specs.Held.{moveAt, moveCode, withMove, withArrival, ScheduleIs};
 ghost use Rattle.text.specs.Steps.{kindAt, toldIn};
 use crate::kinds::Line;
 use crate::kinds::Lines;
@@ -97,7 +97,7 @@ pub fn put_move(
     m: usize,
     x: Move,
 )
-    requires { ⌜ length (now moves) ≡ mostMoves ⌝ }
+    requires { ⌜ length (now moves) ≡ 9362 ⌝ }
     ensures { λ _. ⌜ now (moves .exit) ≡ withMove (now (moves .entry)) i m x ⌝ }
     ensures { λ _. ⌜ now (arrivals .exit) ≡ withArrival (now (arrivals .entry)) m x ⌝ }
 {
@@ -109,7 +109,7 @@ pub fn put_move(
 
 // Line i of a schedule that was read.
 pub fn move_at(moves: &[u32; MOVES], arrivals: &[u64; ARRIVAL_ROWS], i: usize) -> Move
-    requires { ⌜ length (now moves) ≡ mostMoves ⌝ }
+    requires { ⌜ length (now moves) ≡ 9362 ⌝ }
     ensures { λ r. ⌜ r ≡ moveAt (now (moves .entry)) (now (arrivals .entry)) i ⌝ }
 {
     if MOVES <= i {
@@ -134,7 +134,7 @@ pub fn read_schedule(
     moves: &mut [u32; MOVES],
     arrivals: &mut [u64; ARRIVAL_ROWS],
 ) -> Lines
-    requires { ⌜ (length (now moves) ≡ mostMoves) × (length (now arrivals) ≡ arrivalRoom) ⌝ }
+    requires { ⌜ (length (now moves) ≡ 9362) × (length (now arrivals) ≡ 256) ⌝ }
     ensures { λ r. ⌜ ScheduleIs (now (s .entry)) r (now (moves .exit)) (now (arrivals .exit)) ⌝ }
 {
     if TEXT_BYTES < s.len() {

@@ -3,7 +3,7 @@ ghost use mathlib.Core.Path.{_≡_};
 ghost use lib.ListN.{length};
 ghost use Rattle.lines.specs.Place.{cells};
 ghost use Rattle.text.specs.Trace.{requestFrom, responseFrom, traceKinds};
-ghost use Rattle.text.specs.Held.{eventAt, withEvent, TraceIs, eventRoom};
+ghost use Rattle.text.specs.Held.{eventAt, withEvent, TraceIs};
 ghost use Rattle.text.specs.Steps.{kindAt, toldIn};
 use crate::kinds::Line;
 use crate::kinds::Lines;
@@ -107,7 +107,7 @@ pub fn event_at(events: &[u64; EVENT_ROWS], i: usize) -> Event
 
 // Reads a trace into events.
 pub fn read_trace(s: &[u8], events: &mut [u64; EVENT_ROWS]) -> Lines
-    requires { ⌜ length (now events) ≡ eventRoom ⌝ }
+    requires { ⌜ length (now events) ≡ 640 ⌝ }
     ensures { λ r. ⌜ TraceIs (now (s .entry)) r (now (events .exit)) ⌝ }
 {
     if TEXT_BYTES < s.len() {
