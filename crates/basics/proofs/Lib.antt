@@ -4,3 +4,4 @@ pub mod Lists
 pub mod Firsts
 pub mod Chains
 pub mod Scans
+pub mod Searches

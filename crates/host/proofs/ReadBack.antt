@@ -71,20 +71,20 @@ module _ (table : List Program) (words : (prog at : ℕ) → Word (instrAt (code
 
   event-in : (e : Event) → FitEvent M B Rid e → EventIn e
   event-in (Request r prog a b) h = (
-    record { above = omega arith; below = h .0; fits = omega (arith, h .0) },
+    record { below = h .0; fits = omega (arith, h .0) },
     (
-      record { above = omega arith; below = omega (arith, h .1 .0); fits = h .1 .0 },
+      record { below = omega (arith, h .1 .0); fits = h .1 .0 },
       (
-        record { above = omega arith; below = omega (arith, h .1 .1 .0); fits = h .1 .1 .0 },
-        (record { above = omega arith; below = omega (arith, h .1 .1 .1); fits = h .1 .1 .1 }, tt),
+        record { below = omega (arith, h .1 .1 .0); fits = h .1 .1 .0 },
+        (record { below = omega (arith, h .1 .1 .1); fits = h .1 .1 .1 }, tt),
       ),
     ),
   )
   event-in (Response r status value) h = (
-    record { above = omega arith; below = h .0; fits = omega (arith, h .0) },
+    record { below = h .0; fits = omega (arith, h .0) },
     (
-      record { above = omega arith; below = h .1 .0; fits = omega (arith, h .1 .0) },
-      (record { above = omega arith; below = omega (arith, h .1 .1); fits = h .1 .1 }, tt),
+      record { below = h .1 .0; fits = omega (arith, h .1 .0) },
+      (record { below = omega (arith, h .1 .1); fits = h .1 .1 }, tt),
     ),
   )
 
@@ -94,16 +94,16 @@ module _ (table : List Program) (words : (prog at : ℕ) → Word (instrAt (code
       let k = operation-code (l .op .kind) (f .1) in
       record {
         fields = (
-          record { above = omega arith; below = omega (arith, f .0); fits = omega (arith, f .0) },
+          record { below = omega (arith, f .0); fits = omega (arith, f .0) },
           (
-            record { above = omega arith; below = h .0; fits = omega (arith, h .0) },
+            record { below = h .0; fits = omega (arith, h .0) },
             (
-              record { above = omega arith; below = h .1; fits = omega (arith, h .1) },
+              record { below = h .1; fits = omega (arith, h .1) },
               (
-                record { above = omega arith; below = omega arith; fits = omega arith },
+                record { below = omega arith; fits = omega arith },
                 (
-                  record { above = omega arith; below = omega (arith, f .2); fits = f .2 },
-                  (record { above = omega arith; below = omega (arith, f .3); fits = f .3 }, tt),
+                  record { below = omega (arith, f .2); fits = f .2 },
+                  (record { below = omega (arith, f .3); fits = f .3 }, tt),
                 ),
               ),
             ),
@@ -114,10 +114,10 @@ module _ (table : List Program) (words : (prog at : ℕ) → Word (instrAt (code
 
   of-in : (n : ℕ) → n ≤ 64 → (x : Of) → FitOf M B Rid n x → OfIn x
   of-in n k x h = (
-    record { above = omega arith; below = h .0; fits = omega (arith, h .0) },
+    record { below = h .0; fits = omega (arith, h .0) },
     (
-      record { above = omega arith; below = omega (arith, h .1); fits = omega (arith, h .1) },
-      (record { above = omega arith; below = h .2; fits = omega (arith, h .2) }, tt),
+      record { below = omega (arith, h .1); fits = omega (arith, h .1) },
+      (record { below = h .2; fits = omega (arith, h .2) }, tt),
     ),
   )
 

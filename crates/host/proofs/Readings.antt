@@ -33,17 +33,17 @@ WordProgram p = All WordInstr (p .code)
 abbrev WordPrograms : List Program → Type 0
 WordPrograms ps = All WordProgram ps
 
-do-keeps : (ps qs : List Program) (vs : List ℕ) → WordPrograms ps → InRanges (doLine .ranges) vs → addDo ps vs ≡ some qs → WordPrograms qs
+do-keeps : (ps qs : List Program) (vs : List ℕ) → WordPrograms ps → InRanges (doLine .largest) vs → addDo ps vs ≡ some qs → WordPrograms qs
 unfolding addDo
 do-keeps [] qs vs g h e = clash (cc)
 do-keeps (p ∷ []) qs vs g h e =
-    let k = range-at (doLine .ranges) vs 2 h (omega arith) in
+    let k = range-at (doLine .largest) vs 2 h (omega arith) in
     subst WordPrograms (within-some (p .n) 64 (withInstr p (instrFrom vs) ∷ []) qs e .1)
     (all-append WordInstr (p .code) (instrFrom vs ∷ []) (g .0) (omega (arith, k), tt), tt)
 do-keeps (p ∷ q ∷ ps) qs vs g h e = by (addDo (q ∷ ps) vs) refl e (do-keeps (q ∷ ps))
   where
     by : (o : Option (List Program)) → addDo (q ∷ ps) vs ≡ o → inFrontOf p o ≡ some qs →
-        ((rs : List Program) (us : List ℕ) → WordPrograms (q ∷ ps) → InRanges (doLine .ranges) us → addDo (q ∷ ps) us ≡ some rs →
+        ((rs : List Program) (us : List ℕ) → WordPrograms (q ∷ ps) → InRanges (doLine .largest) us → addDo (q ∷ ps) us ≡ some rs →
         WordPrograms rs) → WordPrograms qs
     by (some rs) d e f = let z : p ∷ rs ≡ qs = cc in subst WordPrograms z (g .0, f rs vs (g .1) h d)
     by none d e f = clash (cc)
@@ -72,7 +72,7 @@ pub record ScheduleIn (ms : List Move) : Type 0 where
 arrive-keeps : Keeps ScheduleIn (record { format = arriveLine; add = addArrive })
 unfolding addArrive
 arrive-keeps ms ns vs g h e =
-    let at : (i : ℕ) → i < 4 → getD vs i 0 ≤ getD (arriveLine .ranges) i any .high = λ i k. range-at (arriveLine .ranges) vs i h k in
+    let at : (i : ℕ) → i < 4 → getD vs i 0 ≤ getD (arriveLine .largest) i any = λ i k. range-at (arriveLine .largest) vs i h k in
     let w = within-some (count isArrive ms) 64 _ _ e in
     let r : getD vs 0 0 ≤ 65535 = at 0 (omega arith) in
     let prog : Word (getD vs 1 0) = omega (arith, at 1 (omega arith)) in

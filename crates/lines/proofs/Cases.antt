@@ -6,7 +6,7 @@ use Rattle.lines.specs.Bytes.{bytes}
 use Rattle.lines.specs.Number.{pushOf, digitsOf, numberOf}
 use Rattle.lines.specs.Decimal.{digitsIn, decimal}
 use Rattle.lines.specs.Parts.{onto, parts}
-use Rattle.lines.specs.Line.{Format, any, upTo, prefix, fieldOf, fieldsOf, lineOf}
+use Rattle.lines.specs.Line.{Format, any, prefix, fieldOf, fieldsOf, lineOf}
 use Rattle.lines.specs.LineText.{separatorOf, numbersText, lineText}
 use Rattle.lines.specs.declared.numbers.Numeral.the-variants.{Value, Not}
 
@@ -35,7 +35,7 @@ largest = refl
 
 -- a pair of numbers, the second at most 9
 pair : Format
-pair = record { word = bytes "pair="; ranges = any ∷ upTo 9 ∷ [] }
+pair = record { word = bytes "pair="; largest = any ∷ 9 ∷ [] }
 
 lines :
     map (λ t. lineOf pair (bytes t)) ("pair=12,9" ∷ "pair=12,10" ∷ "pair=12" ∷ "pair=12,9,0" ∷ "pair=12,,9" ∷ "pear=12,9" ∷ [])

@@ -8,15 +8,15 @@ use lib.ListN.{length, take, drop, drop-of-length-le}
 use lib.Seq.{drop-drop}
 use Rattle.lines.specs.Number.{numberOf}
 use Rattle.lines.specs.Parts.{until, parts}
-use Rattle.lines.specs.Line.{Range, Format, prefix, fieldOf, fieldsOf, lineOf, rangesOf}
-use Rattle.lines.specs.Place.{line, lineEnd, found, nothing, foundAt, fieldsAt, lineAt, cells, foundIn}
+use Rattle.lines.specs.Line.{Format, prefix, fieldOf, fieldsOf, lineOf}
+use Rattle.lines.specs.Place.{line, lineEnd, found, nothing, foundAt, fieldsAt, lineAt, cells, formatOf, foundIn}
 use Rattle.lines.specs.declared.lines.Place.{Place}
 use Rattle.lines.specs.declared.lines.Place.the-variants.{At, Nowhere}
 use Rattle.lines.proofs.Parts.{rest-all}
 use Rattle.lines.proofs.Prefix.{unbroken, prefix-line, behind-word}
 
 -- no field stands past the end
-fields-out : (rs : List Range) (s : List ℕ) (at : ℕ) → length s ≤ at → fieldsAt rs s at ≡ nothing
+fields-out : (rs : List ℕ) (s : List ℕ) (at : ℕ) → length s ≤ at → fieldsAt rs s at ≡ nothing
 unfolding fieldsAt fieldsOf fieldOf numberOf parts until
 fields-out [] s at h = rw (drop-of-length-le s h) refl
 fields-out (r ∷ rs) s at h = rw (drop-of-length-le s h) refl
@@ -26,9 +26,9 @@ pub word-test : (w s : List ℕ) (at : ℕ) (b v : Bool) → b ≡ prefix w (tak
     prefix w (drop at s) ≡ v
 word-test w s at b v h k = ap (prefix w) (sym (rest-all at s)) ∙ sym h ∙ k
 
-module _ (w : List ℕ) (rs : List Range) (s : List ℕ) (at : ℕ) where
+module _ (w : List ℕ) (rs : List ℕ) (s : List ℕ) (at : ℕ) where
   abbrev format : Format
-  format = record { word = w; ranges = rs }
+  format = record { word = w; largest = rs }
 
   pub line-here : prefix w (drop at s) ≡ true → fieldsAt rs s (at + length w) ≡ lineAt format s at
   unfolding lineAt
@@ -53,12 +53,12 @@ found-six (At e) m n v h =
     ap (λ k. found (cells k v) e) k
 found-six Nowhere m n v h = refl
 
-pub line-read : (w low high s : List ℕ) (at m n : ℕ) (r : Place) (v : List ℕ) → m ≡ min n 6 →
-    foundIn r m v ≡ fieldsAt (rangesOf m low high) s (at + length w) → prefix w (drop at s) ≡ true →
-    foundIn r n v ≡ lineAt (record { word = w; ranges = rangesOf (min n 6) low high }) s at
-line-read w low high s at m n r v h f e =
-    found-six r m n v h ∙ f ∙ line-here w (rangesOf m low high) s at e
-    ∙ ap (λ k. lineAt (record { word = w; ranges = rangesOf k low high }) s at) h
+pub line-read : (w most s : List ℕ) (at m n : ℕ) (r : Place) (v : List ℕ) → m ≡ min n 6 →
+    foundIn r m v ≡ fieldsAt (cells m most) s (at + length w) → prefix w (drop at s) ≡ true →
+    foundIn r n v ≡ lineAt (formatOf w n most) s at
+line-read w most s at m n r v h f e =
+    found-six r m n v h ∙ f ∙ line-here w (cells m most) s at e
+    ∙ ap (λ k. lineAt (record { word = w; largest = cells k most }) s at) h
 
 -- A word without a line feed: the line from a place on is the text's line there.
 pub line-of : (f : Format) → unbroken (f .word) ≡ true → (s : List ℕ) (at : ℕ) →
@@ -74,8 +74,8 @@ line-of f u s at = go (prefix (f .word) (drop at s)) refl
         let d : line (drop (length w) (drop at s)) ≡ line (drop (at + length w) s) = ap line (drop-drop (length w) at s) in
         let l : lineEnd s (at + length w) ≡ lineEnd s at = omega (arith, b .1, ap length d) in
         let i : drop (length w) (line (drop at s)) ≡ line (drop (at + length w) s) = b .0 ∙ d in
-        sym (line-here w (f .ranges) s at e)
+        sym (line-here w (f .largest) s at e)
         ∙ rw (prefix-line w (drop at s) u, e, i, l, lineOf) refl
     go false e =
-        sym (line-other (f .word) (f .ranges) s at e)
+        sym (line-other (f .word) (f .largest) s at e)
         ∙ rw (prefix-line (f .word) (drop at s) u, e, lineOf) refl

@@ -1,7 +1,7 @@
 -- A line that was written reads back; the numbers of a line that was read are in their ranges.
 use Prim.Native.Nat.{ℕ, suc, zero, _+_, _/_, _%_, _<_, _≤_}
 use mathlib.Core.List.{List, [], _∷_, _++_, map, append-assoc}
-use mathlib.Core.Bool.{Bool, true, false, _&&_}
+use mathlib.Core.Bool.{Bool, true, false}
 use mathlib.Core.Option.{Option, some, none}
 use mathlib.Core.Path.{_≡_, refl, sym, _∙_, ap}
 use native.Mathlib.Omega.{arith}
@@ -13,7 +13,7 @@ use Rattle.basics.proofs.Tests.{clash}
 use Rattle.lines.specs.Number.{numberOf}
 use Rattle.lines.specs.Decimal.{decimal}
 use Rattle.lines.specs.Parts.{parts, onto}
-use Rattle.lines.specs.Line.{Range, Format, InRange, InRanges, prefix, inFront, fieldOf, fieldsOf, lineOf}
+use Rattle.lines.specs.Line.{Format, InRange, InRanges, prefix, inFront, fieldOf, fieldsOf, lineOf}
 use Rattle.lines.specs.LineText.{numbersText, lineText, widest}
 use Rattle.lines.specs.declared.numbers.Numeral.{Numeral}
 use Rattle.lines.specs.declared.numbers.Numeral.the-variants.{Value, Not}
@@ -79,18 +79,18 @@ parts-joined v (u ∷ vs) =
     ∙ ap (λ (l : List (List ℕ)). decimal v ∷ l) (parts-joined u vs)
 
 -- each number in its range
-pub fields-back : (rs : List Range) (vs : List ℕ) → InRanges rs vs → fieldsOf rs (map decimal vs) ≡ some vs
+pub fields-back : (rs : List ℕ) (vs : List ℕ) → InRanges rs vs → fieldsOf rs (map decimal vs) ≡ some vs
 unfolding fieldsOf
 fields-back [] [] h = refl
 fields-back [] (v ∷ vs) h = absurd h
 fields-back (r ∷ rs) [] h = absurd h
 fields-back (r ∷ rs) (v ∷ vs) h =
     fields-value r rs (decimal v) (map decimal vs) v
-    (field-in r (decimal v) v (number-back v (h .0 .fits)) (h .0 .above) (h .0 .below))
+    (field-in r (decimal v) v (number-back v (h .0 .fits)) (h .0 .below))
     ∙ ap (inFront v) (fields-back rs vs (h .1))
 
 -- the numbers of a line that was written
-pub line-back : (f : Format) (v : ℕ) (vs : List ℕ) → InRanges (f .ranges) (v ∷ vs) →
+pub line-back : (f : Format) (v : ℕ) (vs : List ℕ) → InRanges (f .largest) (v ∷ vs) →
     lineOf f (f .word ++ joined v vs) ≡ some (v ∷ vs)
 unfolding lineOf
 line-back f v vs k =
@@ -99,7 +99,7 @@ line-back f v vs k =
       drop-append-seam (f .word) (joined v vs),
       parts-joined v vs,
       lineOf,
-    ) (fields-back (f .ranges) (v ∷ vs) k)
+    ) (fields-back (f .largest) (v ∷ vs) k)
 
 -- no other word begins the line
 pub line-not : (f : Format) (p : List ℕ) → prefix (f .word) p ≡ false → lineOf f p ≡ none
@@ -122,28 +122,22 @@ line-joined w v vs r =
 
 -- ── what was read is in range ──
 
-field-range : (r : Range) (p : List ℕ) (v : ℕ) → fieldOf r p ≡ Value v → InRange r v
+field-range : (most : ℕ) (p : List ℕ) (v : ℕ) → fieldOf most p ≡ Value v → InRange most v
 unfolding fieldOf
-field-range r p v e = go (numberOf p) refl e
+field-range most p v e = go (numberOf p) refl e
   where
-    go : (n : Numeral) → numberOf p ≡ n →
-        elim n [ Value x ↦ elim (leb (r .low) x && leb x (r .high)) [ true ↦ Value x | false ↦ Not ] | Not ↦ Not ] ≡ Value v →
-        InRange r v
+    go : (n : Numeral) → numberOf p ≡ n → elim n [ Value x ↦ elim (leb x most) [ true ↦ Value x | false ↦ Not ] | Not ↦ Not ] ≡ Value v →
+        InRange most v
     go Not q k = clash (cc)
-    go (Value x) q k = test (leb (r .low) x) (leb x (r .high)) refl refl k
+    go (Value x) q k = test (leb x most) refl k
       where
-        test : (a b : Bool) → leb (r .low) x ≡ a → leb x (r .high) ≡ b →
-            elim (a && b) [ true ↦ Value x | false ↦ Not ] ≡ Value v → InRange r v
-        test true true i j m =
+        test : (b : Bool) → leb x most ≡ b → elim b [ true ↦ Value x | false ↦ Not ] ≡ Value v → InRange most v
+        test true i k =
             let h : x ≡ v = cc in
-            let l = leb-true (r .low) x i in
-            let u = leb-true x (r .high) j in
-            let n = number-fits p x q in
-            record { above = omega (arith, l, h); below = omega (arith, u, h); fits = omega (arith, n, h) }
-        test true false i j m = clash (cc)
-        test false b i j m = clash (cc)
+            record { below = omega (arith, leb-true x most i, h); fits = omega (arith, number-fits p x q, h) }
+        test false i k = clash (cc)
 
-fields-range : (rs : List Range) (ps : List (List ℕ)) (vs : List ℕ) → fieldsOf rs ps ≡ some vs → InRanges rs vs
+fields-range : (rs : List ℕ) (ps : List (List ℕ)) (vs : List ℕ) → fieldsOf rs ps ≡ some vs → InRanges rs vs
 unfolding fieldsOf
 fields-range [] [] [] e = tt
 fields-range [] [] (v ∷ vs) e = clash (cc)
@@ -162,18 +156,18 @@ fields-range (r ∷ rs) (p ∷ ps) vs e = go (fieldOf r p) (fieldsOf rs ps) refl
     go (Value v) none i j us k ih = clash (cc)
     go Not o i j us k ih = clash (cc)
 
-pub line-range : (f : Format) (p vs : List ℕ) → lineOf f p ≡ some vs → InRanges (f .ranges) vs
+pub line-range : (f : Format) (p vs : List ℕ) → lineOf f p ≡ some vs → InRanges (f .largest) vs
 unfolding lineOf
 line-range f p vs e = go (prefix (f .word) p) e
   where
     go : (b : Bool) →
-        elim b [ true ↦ fieldsOf (f .ranges) (parts 44 (drop (length (f .word)) p)) | false ↦ none ] ≡ some vs →
-        InRanges (f .ranges) vs
-    go true k = fields-range (f .ranges) (parts 44 (drop (length (f .word)) p)) vs k
+        elim b [ true ↦ fieldsOf (f .largest) (parts 44 (drop (length (f .word)) p)) | false ↦ none ] ≡ some vs →
+        InRanges (f .largest) vs
+    go true k = fields-range (f .largest) (parts 44 (drop (length (f .word)) p)) vs k
     go false k = clash (cc)
 
 -- a line has a number behind its word
-no-fields : (rs : List Range) → fieldsOf rs (parts 44 []) ≡ none
+no-fields : (rs : List ℕ) → fieldsOf rs (parts 44 []) ≡ none
 unfolding fieldsOf fieldOf numberOf parts
 no-fields [] = refl
 no-fields (r ∷ rs) = refl
@@ -183,25 +177,25 @@ unfolding lineOf
 line-longer f p vs e = go (prefix (f .word) p) refl e (ltb (length (f .word)) (length p)) refl
   where
     go : (b : Bool) → prefix (f .word) p ≡ b →
-        elim b [ true ↦ fieldsOf (f .ranges) (parts 44 (drop (length (f .word)) p)) | false ↦ none ] ≡ some vs →
+        elim b [ true ↦ fieldsOf (f .largest) (parts 44 (drop (length (f .word)) p)) | false ↦ none ] ≡ some vs →
         (x : Bool) → ltb (length (f .word)) (length p) ≡ x → length (f .word) < length p
     go true q k true l = ltb-true _ _ l
     go true q k false l =
         let d : drop (length (f .word)) p ≡ [] = drop-of-length-le p (ltb-false _ _ l) in
-        let n = sym (no-fields (f .ranges)) ∙ ap (λ t. fieldsOf (f .ranges) (parts 44 t)) (sym d) ∙ k in
+        let n = sym (no-fields (f .largest)) ∙ ap (λ t. fieldsOf (f .largest) (parts 44 t)) (sym d) ∙ k in
         clash (cc)
     go false q k x l = clash (cc)
 
 -- ── how long a written line is at most ──
 
-numbers-bound : (rs : List Range) (vs : List ℕ) → InRanges rs vs → length (numbersText vs) ≤ widest rs
+numbers-bound : (rs : List ℕ) (vs : List ℕ) → InRanges rs vs → length (numbersText vs) ≤ widest rs
 unfolding numbersText
 numbers-bound [] [] h = omega arith
 numbers-bound [] (v ∷ vs) h = absurd h
 numbers-bound (r ∷ rs) [] h = absurd h
 numbers-bound (r ∷ rs) (v ∷ vs) h =
-    omega (arith, numbers-more v vs, decimal-mono (r .high) v (r .high) (omega arith) (h .0 .below), numbers-bound rs vs (h .1))
+    omega (arith, numbers-more v vs, decimal-mono r v r (omega arith) (h .0 .below), numbers-bound rs vs (h .1))
 
-pub line-bound : (f : Format) (vs : List ℕ) → InRanges (f .ranges) vs →
-    length (lineText (f .word) vs) ≤ length (f .word) + widest (f .ranges)
-line-bound f vs h = omega (arith, line-length (f .word) vs, numbers-bound (f .ranges) vs h)
+pub line-bound : (f : Format) (vs : List ℕ) → InRanges (f .largest) vs →
+    length (lineText (f .word) vs) ≤ length (f .word) + widest (f .largest)
+line-bound f vs h = omega (arith, line-length (f .word) vs, numbers-bound (f .largest) vs h)

@@ -5,7 +5,6 @@ use mathlib.Core.Bool.{true, false}
 use lib.ListN.{length}
 use lib.Dec.{ltb}
 use Rattle.lines.specs.Decimal.{decimal}
-use Rattle.lines.specs.Line.{Range}
 
 -- what stands behind number i of n, counted from 1: a comma, or behind the last a line feed
 unfoldable pub separatorOf : ℕ → ℕ → ℕ
@@ -19,7 +18,7 @@ numbersText (v ∷ vs) = decimal v ++ separatorOf 0 (length vs) ∷ numbersText 
 unfoldable pub lineText : List ℕ → List ℕ → List ℕ
 lineText w vs = w ++ numbersText vs
 
--- the most bytes that numbers in these ranges take as text
-abbrev pub widest : List Range → ℕ
+-- the most bytes that numbers up to these take as text
+abbrev pub widest : (largest : List ℕ) → ℕ
 widest [] = 0
-widest (r ∷ rs) = length (decimal (r .high)) + 1 + widest rs
+widest (m ∷ ms) = length (decimal m) + 1 + widest ms

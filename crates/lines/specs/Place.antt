@@ -6,7 +6,7 @@ use mathlib.Core.Option.{Option, some, none}
 use lib.ListN.{length, getD, drop}
 use Rattle.lines.specs.Number.{numberOf}
 use Rattle.lines.specs.Parts.{until, parts}
-use Rattle.lines.specs.Line.{Range, Format, prefix, fieldsOf}
+use Rattle.lines.specs.Line.{Format, prefix, fieldsOf}
 use Rattle.lines.specs.declared.numbers.Numeral.{Numeral}
 use Rattle.lines.specs.declared.numbers.Numeral.the-variants.{Value, Not}
 use Rattle.lines.specs.declared.numbers.Spelled.{Spelled}
@@ -45,14 +45,14 @@ foundAt (some vs) e = found vs e
 foundAt none e = nothing
 
 -- the fields from a place on to the line's end
-unfoldable pub fieldsAt : List Range → List ℕ → ℕ → Found
-fieldsAt rs s at = foundAt (fieldsOf rs (parts 44 (line (drop at s)))) (lineEnd s at)
+unfoldable pub fieldsAt : (largest : List ℕ) → List ℕ → ℕ → Found
+fieldsAt ms s at = foundAt (fieldsOf ms (parts 44 (line (drop at s)))) (lineEnd s at)
 
 -- the line of the format f from a place on: its word stands there, and its fields go on to the line's end
 unfoldable pub lineAt : Format → List ℕ → ℕ → Found
 lineAt f s at =
     elim (prefix (f .word) (drop at s)) [
-      | true ↦ fieldsAt (f .ranges) s (at + length (f .word))
+      | true ↦ fieldsAt (f .largest) s (at + length (f .word))
       | false ↦ nothing
     ]
 
@@ -63,6 +63,10 @@ cellsFrom (suc n) i v = getD v i 0 ∷ cellsFrom n (suc i) v
 
 abbrev pub cells : ℕ → List ℕ → List ℕ
 cells n v = cellsFrom n 0 v
+
+-- the word w and n fields, six at most
+abbrev pub formatOf : (w : List ℕ) (n : ℕ) (most : List ℕ) → Format
+formatOf w n most = record { word = w; largest = cells (min n 6) most }
 
 -- what an answer says, where its numbers are the first n of v, six at most
 unfoldable pub foundIn : Place → ℕ → List ℕ → Found

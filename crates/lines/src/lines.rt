@@ -1,8 +1,8 @@
 // A line at a place of a text: its word, and its numbers in their ranges.
 ghost use mathlib.Core.Path.{_≡_};
 ghost use Prim.Native.Nat.{_≤_};
-ghost use Rattle.lines.specs.Line.{prefix, rangesOf, formatOf};
-ghost use Rattle.lines.specs.Place.{fieldsAt, lineAt, foundIn};
+ghost use Rattle.lines.specs.Line.{prefix};
+ghost use Rattle.lines.specs.Place.{cells, fieldsAt, formatOf, lineAt, foundIn};
 ghost use Rattle.lines.specs.Steps.{commaAt};
 use crate::numbers::Spelled;
 use crate::numbers::number_at;
@@ -38,17 +38,10 @@ fn comma(s: &[u8], e: usize) -> bool
     if e < s.len() { s[e] == 44 } else { false }
 }
 
-// The fields from at on to the line's end, n of them, into v.
-fn fields_at(
-    s: &[u8],
-    at: usize,
-    n: usize,
-    low: &[u64; 6],
-    high: &[u64; 6],
-    v: &mut [u64; 6],
-) -> Place
+// The fields from at on to the line's end, n of them, each up to its number in most, into v.
+fn fields_at(s: &[u8], at: usize, n: usize, most: &[u64; 6], v: &mut [u64; 6]) -> Place
     requires { ⌜ n ≤ 6 ⌝ }
-    ensures { λ r. ⌜ foundIn r n (now (v .exit)) ≡ fieldsAt (rangesOf n (now (low .entry)) (now (high .entry))) (now (s .entry)) at ⌝ }
+    ensures { λ r. ⌜ foundIn r n (now (v .exit)) ≡ fieldsAt (cells n (now (most .entry))) (now (s .entry)) at ⌝ }
 {
     *v = [0; 6];
     let mut i: usize = 0;
@@ -56,10 +49,7 @@ fn fields_at(
     while i < n {
         match number_at(s, p) {
             Spelled::Ended(x, e) => {
-                if x < low[i] {
-                    return Place::Nowhere;
-                }
-                if high[i] < x {
+                if most[i] < x {
                     return Place::Nowhere;
                 }
                 v[i] = x;
@@ -80,18 +70,9 @@ fn fields_at(
     Place::Nowhere
 }
 
-// The line from at on with the word w and n fields, six at most, from low to high: its numbers go into v.
-pub fn line_at(
-    s: &[u8],
-    at: usize,
-    w: &[u8],
-    n: usize,
-    low: &[u64; 6],
-    high: &[u64; 6],
-    v: &mut [u64; 6],
-) -> Place
-    ensures { λ r. ⌜ foundIn r n (now (v .exit))
-        ≡ lineAt (formatOf (now (w .entry)) n (now (low .entry)) (now (high .entry))) (now (s .entry)) at ⌝ }
+// The line from at on with the word w and n fields, six at most, each up to its number in most: its numbers go into v.
+pub fn line_at(s: &[u8], at: usize, w: &[u8], n: usize, most: &[u64; 6], v: &mut [u64; 6]) -> Place
+    ensures { λ r. ⌜ foundIn r n (now (v .exit)) ≡ lineAt (formatOf (now (w .entry)) n (now (most .entry))) (now (s .entry)) at ⌝ }
 {
     if s.len() < at {
         return Place::Nowhere;
@@ -99,5 +80,5 @@ pub fn line_at(
     if !begins(&s[at..], w) {
         return Place::Nowhere;
     }
-    fields_at(s, at + w.len(), least(n, 6), low, high, v)
+    fields_at(s, at + w.len(), least(n, 6), most, v)
 }

@@ -23,7 +23,7 @@ use Rattle.machine.specs.Objects.{Content, apply}
 use Rattle.machine.proofs.LogLaws.{after-upd, answers-at, answers-length}
 use Rattle.replay.specs.Promises.{AnsweredFrom, Answers}
 use Rattle.replay.specs.declared.claims.Answered.the-variants.{Wrong, Right}
-use Rattle.replay.proofs.Searches.{stateAt, search-hit, search-none}
+use Rattle.basics.proofs.Searches.{stateAt, search-hit, search-none}
 
 -- ── the claim ──
 -- what the lines above line i leave

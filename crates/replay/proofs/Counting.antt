@@ -16,7 +16,7 @@ use Rattle.model.specs.Claims.{allClaimed, bad8}
 use Rattle.model.specs.FirstBad.{firstBad}
 use Rattle.model.specs.Batch.{claims, claimed}
 use Rattle.model.proofs.LineScans.{Scanned, scan-on, scan-bad}
-use Rattle.replay.proofs.Searches.{search-hit, search-none}
+use Rattle.basics.proofs.Searches.{search-hit, search-none}
 
 -- ── the line that claims an operation ──
 module _ (r k : ℕ) where

@@ -35,7 +35,7 @@ use Rattle.replay.specs.Arrays.{Arrays, batchHeld, nodeAt}
 use Rattle.replay.specs.Judges.{Ready, Orders}
 use Rattle.replay.specs.Promises.{laneIn, numberIn, ItemIs, ItemsTo, Returns}
 use Rattle.replay.proofs.Ready.{ready-formed}
-use Rattle.replay.proofs.Searches.{search-hit}
+use Rattle.basics.proofs.Searches.{search-hit}
 
 -- ── the item of an event ──
 module _ (ofs : List ℕ) (m : ℕ) (x : Event) (s : ℕ) where

@@ -31,7 +31,7 @@ use Rattle.replay.specs.declared.replays.End.{End}
 use Rattle.replay.specs.declared.replays.End.the-variants.{Differs, Ended}
 use Rattle.replay.specs.declared.requests.Said.{Said}
 use Rattle.replay.proofs.Rows.{checksOf, row-first, row-none, row-some}
-use Rattle.replay.proofs.Searches.{search-hit}
+use Rattle.basics.proofs.Searches.{search-hit}
 use Rattle.replay.proofs.Looking.{request-is, program-below, response-is, counted-is}
 
 byEnd : {P : Type 0} (e : End) → (e ≡ Differs → P) → ((s v d : ℕ) → e ≡ Ended s v d → P) → P

@@ -1,6 +1,5 @@
 -- The laws that the functions' proofs cite.
--- Lines by their place
-pub mod Searches
+-- What is known of a batch that is judged
 pub mod Ready
 -- Row 9
 pub mod Items

@@ -25,7 +25,7 @@ use Rattle.replay.specs.Promises.{opens, closes, arrivalOf, replyOf}
 use Rattle.replay.specs.declared.replays.Arrival.{Arrival}
 use Rattle.replay.specs.declared.requests.Said.{Said}
 use Rattle.replay.proofs.Ready.{ready-formed}
-use Rattle.replay.proofs.Searches.{search-hit, search-none}
+use Rattle.basics.proofs.Searches.{search-hit, search-none}
 
 module _ (M : Machine) (r : ℕ) where
   abbrev startFrom : Event → Option (M .Process)

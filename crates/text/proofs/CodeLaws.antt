@@ -10,9 +10,9 @@ use lib.Dec.{leb}
 use lib.ListN.{getD, length, List·getD-map, List·getD-eq-default}
 use Rattle.basics.specs.Firsts.{firsts}
 use Rattle.basics.proofs.Firsts.{firsts-at}
-use Rattle.lines.specs.Line.{Format, InRanges, any, upTo}
+use Rattle.lines.specs.Line.{Format, InRanges, any}
 use Rattle.text.specs.Codes.{Code, other, codes, isCode, codeOf, operates, isOperation}
-use Rattle.text.specs.Formats.{rid, logLine}
+use Rattle.text.specs.Formats.{mostRid, logLine}
 use Rattle.text.specs.Written.{entryNumbers, EntryIn}
 use Rattle.text.specs.declared.report.Entry.{Entry}
 
@@ -59,11 +59,11 @@ operation-code k h = by (isCode k) refl
 
 -- a log line whose kind is in a range as its other fields are
 abbrev pub narrowLog : Format
-narrowLog = record { word = logLine .word; ranges = upTo 15 ∷ rid ∷ upTo 256 ∷ upTo (length codes - 1) ∷ any ∷ any ∷ [] }
+narrowLog = record { word = logLine .word; largest = 15 ∷ mostRid ∷ 256 ∷ (length codes - 1) ∷ any ∷ any ∷ [] }
 
-pub entry-range : (l : Entry) → EntryIn l → InRanges (narrowLog .ranges) (entryNumbers l)
+pub entry-range : (l : Entry) → EntryIn l → InRanges (narrowLog .largest) (entryNumbers l)
 entry-range l h =
     let f = h .fields in
     let k = f .1 .1 .1 in
     let below = operation-code (l .op .kind) (h .operation) in
-    (f .0, (f .1 .0, (f .1 .1 .0, (record { above = k .0 .above; below = omega arith; fits = k .0 .fits }, k .1))))
+    (f .0, (f .1 .0, (f .1 .1 .0, (record { below = omega arith; fits = k .0 .fits }, k .1))))

@@ -83,8 +83,8 @@ not-both : (f g : Format) (s : List ℕ) (at : ℕ) → differ (f .word) (g .wor
 not-both f g s at d vs e h = go (prefix (g .word) (drop at s)) refl
   where
     go : (b : Bool) → prefix (g .word) (drop at s) ≡ b → nothing ≡ lineAt f s at
-    go true k = line-other (f .word) (f .ranges) s at (differ-prefix (f .word) (g .word) (drop at s) d k)
-    go false k = let z : found vs e ≡ nothing = h ∙ sym (line-other (g .word) (g .ranges) s at k) in clash (cc)
+    go true k = line-other (f .word) (f .largest) s at (differ-prefix (f .word) (g .word) (drop at s) d k)
+    go false k = let z : found vs e ≡ nothing = h ∙ sym (line-other (g .word) (g .largest) s at k) in clash (cc)
 
 module _ {S : Type 0} where
   -- the only kind that fits is the first

@@ -14,7 +14,7 @@ use Rattle.basics.specs.Lists.{All}
 use Rattle.basics.specs.Count.{count}
 use Rattle.basics.proofs.Lists.{count-yes, count-no}
 use Rattle.basics.proofs.Tests.{clash, byBool}
-use Rattle.lines.specs.Line.{Range, InRange, InRanges, any, lineOf}
+use Rattle.lines.specs.Line.{InRange, InRanges, any, lineOf}
 use Rattle.lines.specs.Parts.{parts}
 use Rattle.lines.specs.Place.{cellsFrom, cells}
 use Rattle.lines.proofs.LineTrip.{line-range}
@@ -33,7 +33,7 @@ use Rattle.text.specs.declared.schedule.Move.the-variants.{Turn}
 -- ── a fact that each kind of line keeps is kept by a whole text ──
 module _ {S : Type 0} (P : S → Type 0) where
   abbrev pub Keeps : Kind S → Type 0
-  Keeps k = (x y : S) (vs : List ℕ) → P x → InRanges (k .format .ranges) vs → k .add x vs ≡ some y → P y
+  Keeps k = (x y : S) (vs : List ℕ) → P x → InRanges (k .format .largest) vs → k .add x vs ≡ some y → P y
 
   line-keeps : (ks : List (Kind S)) → All Keeps ks → (x y : S) (p : List ℕ) → P x → addLine ks x p ≡ some y → P y
   unfolding addLine
@@ -78,17 +78,17 @@ within-some {A} n m x y e = by (ltb n m) refl e
     by false d e = clash (cc)
 
 -- number i is in its range
-range-in : (rs : List Range) (vs : List ℕ) (i : ℕ) → InRanges rs vs → i < length rs → InRange (getD rs i any) (getD vs i 0)
+range-in : (rs : List ℕ) (vs : List ℕ) (i : ℕ) → InRanges rs vs → i < length rs → InRange (getD rs i any) (getD vs i 0)
 range-in [] vs i h k = absurd (omega arith)
 range-in (r ∷ rs) [] i h k = absurd h
 range-in (r ∷ rs) (v ∷ vs) zero h k = h .0
 range-in (r ∷ rs) (v ∷ vs) (suc i) h k = range-in rs vs i (h .1) (omega arith)
 
-pub range-at : (rs : List Range) (vs : List ℕ) (i : ℕ) → InRanges rs vs → i < length rs → getD vs i 0 ≤ getD rs i any .high
+pub range-at : (rs : List ℕ) (vs : List ℕ) (i : ℕ) → InRanges rs vs → i < length rs → getD vs i 0 ≤ getD rs i any
 range-at rs vs i h k = range-in rs vs i h k .below
 
 -- and so are the numbers as a record takes them, one by one
-cells-in : (rs : List Range) (i : ℕ) (v : List ℕ) → ((j : ℕ) → j < length rs → InRange (getD rs j any) (getD v (i + j) 0)) →
+cells-in : (rs : List ℕ) (i : ℕ) (v : List ℕ) → ((j : ℕ) → j < length rs → InRange (getD rs j any) (getD v (i + j) 0)) →
     InRanges rs (cellsFrom (length rs) i v)
 cells-in [] i v h = tt
 cells-in (r ∷ rs) i v h = (
@@ -98,7 +98,7 @@ cells-in (r ∷ rs) i v h = (
       subst (λ n. InRange (getD rs j any) (getD v n 0)) e (h (suc j) (omega (arith, k)))),
 )
 
-taken-in : (rs : List Range) (vs : List ℕ) → InRanges rs vs → InRanges rs (cells (length rs) vs)
+taken-in : (rs : List ℕ) (vs : List ℕ) → InRanges rs vs → InRanges rs (cells (length rs) vs)
 taken-in rs vs h =
     cells-in rs 0 vs (λ j k.
     let e : j ≡ 0 + j = omega arith in
@@ -121,7 +121,7 @@ request-keeps es q vs g h e =
     let w = within-some (count isRequest es) 64 _ _ e in
     subst TraceIn (w .1)
     (record {
-      events = all-more EventIn es x (g .events) (taken-in (requestLine .ranges) vs h);
+      events = all-more EventIn es x (g .events) (taken-in (requestLine .largest) vs h);
       requests = omega (arith, w .0, count-yes isRequest es x refl);
       responses = omega (arith, g .responses, count-no isResponse es x refl);
     })
@@ -133,7 +133,7 @@ response-keeps es q vs g h e =
     let w = within-some (count isResponse es) 64 _ _ e in
     subst TraceIn (w .1)
     (record {
-      events = all-more EventIn es x (g .events) (taken-in (responseLine .ranges) vs h);
+      events = all-more EventIn es x (g .events) (taken-in (responseLine .largest) vs h);
       requests = omega (arith, g .requests, count-no isRequest es x refl);
       responses = omega (arith, w .0, count-yes isResponse es x refl);
     })
@@ -171,7 +171,7 @@ of-keeps r q vs g h e = by (r .log) e
         let w = within-some (length (r .ofs)) 64 _ _ e in
         subst ReportIn (w .1)
         (record {
-          ofsIn = all-more OfIn (r .ofs) (ofFrom vs) (g .ofsIn) (taken-in (ofLine .ranges) vs h);
+          ofsIn = all-more OfIn (r .ofs) (ofFrom vs) (g .ofsIn) (taken-in (ofLine .largest) vs h);
           logIn = tt;
           fewOfs = omega (arith, w .0, length-append (r .ofs) (ofFrom vs ∷ []));
           fewEntries = omega arith;
@@ -187,7 +187,7 @@ log-keeps r q vs g h e = by (isOperation (getD vs 3 0)) refl e
         ReportIn q
     by true o e =
         let w = within-some (length (r .log)) 1024 _ _ e in
-        let x : EntryIn (entryFrom vs) = record { fields = taken-in (logLine .ranges) vs h; operation = o } in
+        let x : EntryIn (entryFrom vs) = record { fields = taken-in (logLine .largest) vs h; operation = o } in
         subst ReportIn (w .1)
         (record {
           ofsIn = g .ofsIn;

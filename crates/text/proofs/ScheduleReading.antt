@@ -218,7 +218,7 @@ module _ {s moves arrivals : List ℕ} {m n at : ℕ} (r : Held s moves arrivals
       turn-on x i moves′ arrivals′ d b =
           let u = line-room f g in
           let rid = getD vs 0 0 in
-          let o : rid ≤ 65535 = range-at (turnLine .ranges) vs 0 (line-range turnLine _ vs (f .numbers)) (omega arith) in
+          let o : rid ≤ 65535 = range-at (turnLine .largest) vs 0 (line-range turnLine _ vs (f .numbers)) (omega arith) in
           let z : rid % 65536 ≡ rid = omega (arith, o) in
           let d′ : moves′ ≡ set moves n rid = d ∙ ap (withMove moves n m) i ∙ ap (set moves n) z in
           let b′ : arrivals′ ≡ arrivals = b ∙ ap (withArrival arrivals m) i in

@@ -1,23 +1,23 @@
--- The formats of the four texts: the word of each line, the ranges of its fields, and how many of it there may be.
+-- The formats of the four texts: the word of each line, the largest number of each field (the smallest is 0), and how many of it there may be.
 use Prim.Native.Nat.{ℕ, _-_}
 use mathlib.Core.List.{[], _∷_}
 use Rattle.lines.specs.Bytes.{bytes}
-use Rattle.lines.specs.Line.{Range, Format, any, upTo}
+use Rattle.lines.specs.Line.{Format, any}
 
 -- the most bytes of a text
 abbrev pub mostBytes : ℕ
 mostBytes = 65535
 
--- how many request ids there are
+-- how many request ids there are, and the largest
 abbrev pub mostRids : ℕ
 mostRids = 65536
 
-abbrev pub rid : Range
-rid = upTo (mostRids - 1)
+abbrev pub mostRid : ℕ
+mostRid = mostRids - 1
 
 -- program=n
 abbrev pub programLine : Format
-programLine = record { word = bytes "program="; ranges = any ∷ [] }
+programLine = record { word = bytes "program="; largest = any ∷ [] }
 
 -- the most programs, and the most instructions of one
 abbrev pub mostPrograms : ℕ
@@ -28,11 +28,11 @@ mostInstructions = 64
 
 -- do=code,a,b,c
 abbrev pub doLine : Format
-doLine = record { word = bytes "do="; ranges = any ∷ any ∷ any ∷ any ∷ [] }
+doLine = record { word = bytes "do="; largest = any ∷ any ∷ any ∷ any ∷ [] }
 
 -- request=rid,prog,a,b
 abbrev pub requestLine : Format
-requestLine = record { word = bytes "request="; ranges = rid ∷ any ∷ any ∷ any ∷ [] }
+requestLine = record { word = bytes "request="; largest = mostRid ∷ any ∷ any ∷ any ∷ [] }
 
 -- the most requests of a trace
 abbrev pub mostRequests : ℕ
@@ -40,7 +40,7 @@ mostRequests = 64
 
 -- response=rid,status,value
 abbrev pub responseLine : Format
-responseLine = record { word = bytes "response="; ranges = rid ∷ upTo 1 ∷ any ∷ [] }
+responseLine = record { word = bytes "response="; largest = mostRid ∷ 1 ∷ any ∷ [] }
 
 -- the most responses of a trace
 abbrev pub mostResponses : ℕ
@@ -56,7 +56,7 @@ mostOperations = 256
 
 -- of=rid,group,count
 abbrev pub ofLine : Format
-ofLine = record { word = bytes "of="; ranges = rid ∷ upTo mostGroup ∷ upTo mostOperations ∷ [] }
+ofLine = record { word = bytes "of="; largest = mostRid ∷ mostGroup ∷ mostOperations ∷ [] }
 
 -- the most `of` lines of a report
 abbrev pub mostOfs : ℕ
@@ -68,7 +68,7 @@ mostObjects = 16
 
 -- log=object,rid,num,kind,key,value, where the kind is the code of an operation
 abbrev pub logLine : Format
-logLine = record { word = bytes "log="; ranges = upTo (mostObjects - 1) ∷ rid ∷ upTo mostOperations ∷ any ∷ any ∷ any ∷ [] }
+logLine = record { word = bytes "log="; largest = (mostObjects - 1) ∷ mostRid ∷ mostOperations ∷ any ∷ any ∷ any ∷ [] }
 
 -- the most `log` lines of a report
 abbrev pub mostEntries : ℕ
@@ -76,7 +76,7 @@ mostEntries = 1024
 
 -- arrive=rid,prog,a,b
 abbrev pub arriveLine : Format
-arriveLine = record { word = bytes "arrive="; ranges = rid ∷ any ∷ any ∷ any ∷ [] }
+arriveLine = record { word = bytes "arrive="; largest = mostRid ∷ any ∷ any ∷ any ∷ [] }
 
 -- the most arrivals of a schedule
 abbrev pub mostArrivals : ℕ
@@ -84,4 +84,4 @@ mostArrivals = 64
 
 -- turn=rid
 abbrev pub turnLine : Format
-turnLine = record { word = bytes "turn="; ranges = rid ∷ [] }
+turnLine = record { word = bytes "turn="; largest = mostRid ∷ [] }

@@ -29,14 +29,14 @@ module _ {S : Type 0} where
   kindAt (k ∷ ks) s at = orElse (lineAt (k .format) s at) (kindAt ks s at)
 
   abbrev pub noKind : Kind S
-  noKind = record { format = record { word = []; ranges = [] }; add = λ x vs. none }
+  noKind = record { format = record { word = []; largest = [] }; add = λ x vs. none }
 
   -- kind k of a list, and how many numbers its line has
   abbrev pub kind : List (Kind S) → ℕ → Kind S
   kind ks k = getD ks k noKind
 
   abbrev pub fields : List (Kind S) → ℕ → ℕ
-  fields ks k = length (kind ks k .format .ranges)
+  fields ks k = length (kind ks k .format .largest)
 
   -- the numbers of a line of kind k, which are the first of v
   abbrev pub numbersIn : List (Kind S) → ℕ → List ℕ → List ℕ

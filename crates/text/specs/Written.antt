@@ -29,7 +29,7 @@ eventNumbers (Response rid status value) = rid ∷ status ∷ value ∷ []
 
 -- each field in its range
 abbrev pub EventIn : Event → Type 0
-EventIn e = InRanges (eventFormat e .ranges) (eventNumbers e)
+EventIn e = InRanges (eventFormat e .largest) (eventNumbers e)
 
 -- the trace as bytes
 unfoldable pub eventText : Event → List ℕ
@@ -47,10 +47,10 @@ entryNumbers l = l .op .object ∷ l .rid ∷ l .num ∷ l .op .kind ∷ l .op .
 
 -- each field in its range, and the kind one of an operation
 abbrev pub OfIn : Of → Type 0
-OfIn o = InRanges (ofLine .ranges) (ofNumbers o)
+OfIn o = InRanges (ofLine .largest) (ofNumbers o)
 
 pub record EntryIn (l : Entry) : Type 0 where
-  pub fields : InRanges (logLine .ranges) (entryNumbers l)
+  pub fields : InRanges (logLine .largest) (entryNumbers l)
   pub operation : isOperation (l .op .kind) ≡ true
 
 -- the report as bytes

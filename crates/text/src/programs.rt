@@ -45,13 +45,12 @@ fn program_line(s: &[u8], at: usize, v: &mut [u64; 6]) -> Line
     ensures { λ r. ⌜ toldIn programKinds r (now (v .exit)) ≡ kindAt programKinds (now (s .entry)) at ⌝ }
 {
     let max: u64 = MOST_NUMBER;
-    let low = [0u64; 6];
     let instr = [max, max, max, max, 0, 0];
-    if let Place::At(e) = line_at(s, at, b"do=", 4, &low, &instr, v) {
+    if let Place::At(e) = line_at(s, at, b"do=", 4, &instr, v) {
         return Line::Known(1, e);
     }
     let program = [max, 0, 0, 0, 0, 0];
-    if let Place::At(e) = line_at(s, at, b"program=", 1, &low, &program, v) {
+    if let Place::At(e) = line_at(s, at, b"program=", 1, &program, v) {
         return Line::Known(0, e);
     }
     Line::Unknown

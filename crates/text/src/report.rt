@@ -55,13 +55,12 @@ fn report_line(s: &[u8], at: usize, v: &mut [u64; 6]) -> Line
     ensures { λ r. ⌜ toldIn reportKinds r (now (v .exit)) ≡ kindAt reportKinds (now (s .entry)) at ⌝ }
 {
     let max: u64 = MOST_NUMBER;
-    let low = [0u64; 6];
     let log = [MOST_OBJECT, MOST_RID, MOST_OPERATIONS, max, max, max];
-    if let Place::At(e) = line_at(s, at, b"log=", 6, &low, &log, v) {
+    if let Place::At(e) = line_at(s, at, b"log=", 6, &log, v) {
         return Line::Known(1, e);
     }
     let of = [MOST_RID, MOST_GROUP, MOST_OPERATIONS, 0, 0, 0];
-    if let Place::At(e) = line_at(s, at, b"of=", 3, &low, &of, v) {
+    if let Place::At(e) = line_at(s, at, b"of=", 3, &of, v) {
         return Line::Known(0, e);
     }
     Line::Unknown

@@ -36,13 +36,12 @@ fn schedule_line(s: &[u8], at: usize, v: &mut [u64; 6]) -> Line
     ensures { λ r. ⌜ toldIn scheduleKinds r (now (v .exit)) ≡ kindAt scheduleKinds (now (s .entry)) at ⌝ }
 {
     let max: u64 = MOST_NUMBER;
-    let low = [0u64; 6];
     let turn = [MOST_RID, 0, 0, 0, 0, 0];
-    if let Place::At(e) = line_at(s, at, b"turn=", 1, &low, &turn, v) {
+    if let Place::At(e) = line_at(s, at, b"turn=", 1, &turn, v) {
         return Line::Known(1, e);
     }
     let arrive = [MOST_RID, max, max, max, 0, 0];
-    if let Place::At(e) = line_at(s, at, b"arrive=", 4, &low, &arrive, v) {
+    if let Place::At(e) = line_at(s, at, b"arrive=", 4, &arrive, v) {
         return Line::Known(0, e);
     }
     Line::Unknown

@@ -29,13 +29,12 @@ fn trace_line(s: &[u8], at: usize, v: &mut [u64; 6]) -> Line
     ensures { λ r. ⌜ toldIn traceKinds r (now (v .exit)) ≡ kindAt traceKinds (now (s .entry)) at ⌝ }
 {
     let max: u64 = MOST_NUMBER;
-    let low = [0u64; 6];
     let request = [MOST_RID, max, max, max, 0, 0];
-    if let Place::At(e) = line_at(s, at, b"request=", 4, &low, &request, v) {
+    if let Place::At(e) = line_at(s, at, b"request=", 4, &request, v) {
         return Line::Known(0, e);
     }
     let response = [MOST_RID, 1, max, 0, 0, 0];
-    if let Place::At(e) = line_at(s, at, b"response=", 3, &low, &response, v) {
+    if let Place::At(e) = line_at(s, at, b"response=", 3, &response, v) {
         return Line::Known(1, e);
     }
     Line::Unknown

@@ -40,9 +40,8 @@ pub(crate) fn read_header(s: &[u8], n: usize, v: &mut [u64; 6]) -> Header
 {
     let equals = bytes::scan::find(s, 0, s.len(), b'=');
     let name = end_of(s, equals, 1);
-    let low = [0u64; 6];
-    let high = [MOST_LENGTH; 6];
-    match line_at(s, 0, &s[0..name], n, &low, &high, v) {
+    let most = [MOST_LENGTH; 6];
+    match line_at(s, 0, &s[0..name], n, &most, v) {
         Place::At(e) => Header::Ends(name, end_of(s, e, 1)),
         Place::Nowhere => Header::Unreadable,
     }

@@ -1,8 +1,7 @@
 -- Laws that the functions' proofs cite
-pub mod Searches
-pub mod TraceScans
-pub mod ReportScans
 pub mod ReportRanges
+pub mod Rows4To7
+pub mod Rows8To12
 pub mod Verdicts
 pub mod PrintedLines
 -- Demand 3 for texts

@@ -11,7 +11,6 @@ use Rattle.basics.proofs.Lists.{all-append, all-map, all-imp, all-any, count-ap
 use Rattle.basics.proofs.Tests.{byEq}
 use Rattle.lines.specs.Bytes.{bytes}
 use Rattle.lines.specs.Decimal.{digitsIn, decimal}
-use Rattle.lines.specs.Line.{upTo}
 use Rattle.lines.proofs.LineTrip.{line-bound}
 use Rattle.text.specs.declared.report.Entry.{Entry}
 use Rattle.text.specs.declared.trace.Event.{Event}
@@ -48,13 +47,13 @@ Small (operation r k) = (r ≤ 65535) × (k ≤ 256)
 
 event-most : (n : ℕ) → n ≤ 128 → length (eventItem n) ≤ 10
 unfolding eventItem decimal digitsIn
-event-most n h = line-bound (record { word = bytes "event="; ranges = upTo 128 ∷ [] }) (n ∷ [])
-    (record { above = omega arith; below = h; fits = omega arith }, tt)
+event-most n h = line-bound (record { word = bytes "event="; largest = 128 ∷ [] }) (n ∷ [])
+    (record { below = h; fits = omega arith }, tt)
 
 operation-most : (r k : ℕ) → r ≤ 65535 → k ≤ 256 → length (operationItem r k) ≤ 13
 unfolding operationItem decimal digitsIn
-operation-most r k h g = line-bound (record { word = bytes "op="; ranges = upTo 65535 ∷ upTo 256 ∷ [] }) (r ∷ k ∷ [])
-    (record { above = omega arith; below = h; fits = omega arith }, (record { above = omega arith; below = g; fits = omega arith }, tt))
+operation-most r k h g = line-bound (record { word = bytes "op="; largest = 65535 ∷ 256 ∷ [] }) (r ∷ k ∷ [])
+    (record { below = h; fits = omega arith }, (record { below = g; fits = omega arith }, tt))
 
 -- an operation is a log line
 lines-small : (ls : List Entry) → All (λ l. l .rid ≤ 65535) ls → All (λ l. l .num ≤ 256) ls → All (λ l. Small (itemOf (ln l))) ls

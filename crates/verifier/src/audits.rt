@@ -3,11 +3,6 @@
 use crate::Audited;
 use crate::orders::Ordered;
 use crate::orders::put_numbers;
-use crate::report_rows::pack_claims;
-use crate::report_rows::row_6;
-use crate::report_rows::row_7;
-use crate::trace_rows::row_4;
-use crate::trace_rows::row_4_open;
 use cells::BUCKETS;
 use cells::CELL_ROWS;
 use lines::Put;
@@ -16,7 +11,10 @@ use machine::Ruling;
 use machine::check_rules;
 use replay::Fault;
 use replay::judge;
-use text::ENTRIES;
+use rows::row_4;
+use rows::row_4_open;
+use rows::row_6;
+use rows::row_7;
 use text::ENTRY_ROWS;
 use text::EVENT_ROWS;
 use text::Lines;
@@ -100,9 +98,7 @@ fn check_report(
         }
         Ruling::Kept => {}
     }
-    let mut column = [0u32; ENTRIES];
-    pack_claims(logs, n, &mut column);
-    match row_7(ofs, m, logs, n, &column) {
+    match row_7(ofs, m, logs, n) {
         Ruling::Broken(line) => {
             return Checked::Refused(7, line);
         }

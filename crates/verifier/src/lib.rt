@@ -2,8 +2,6 @@
 mod audits;
 mod orders;
 mod printing;
-mod report_rows;
-mod trace_rows;
 
 pub use audits::audit;
 pub use audits::audit_order;

@@ -14,15 +14,18 @@ returns c = line-out _ _ _ _ (search needs)
 returns-2 : tie.Need-returns-2
 unfolding foundIn
 returns-2 c =
-    let s = now (c .before .before .before .before .before .before .args .s) in
+    let start = c .before .before .before .before .before .before in
+    let s = now (start .args .s) in
     line-other _ _ s _ (word-test _ s _ _ _ (c .before .begins .ensures) (not-true _ (c .if2 .taken)))
 
 returns-3 : tie.Need-returns-3
 returns-3 c =
-    let a = c .before .before .before .before .before .before .before .before .before .args in
+    let at-if2 = c .before .before .before in
+    let start = at-if2 .before .before .before .before .before .before in
+    let a = start .args in
     let s = now (a .s) in
-    line-read (now (a .w)) _ _ s (a .at) _ (a .n) _ _ (c .before .before .least .ensures) (c .fields-at .ensures)
-    (word-test _ s _ _ _ (c .before .before .before .before .begins .ensures) (not-false _ (c .before .before .before .if2 .left)))
+    line-read (now (a .w)) _ s (a .at) _ (a .n) _ _ (c .before .before .least .ensures) (c .fields-at .ensures)
+    (word-test _ s _ _ _ (at-if2 .before .begins .ensures) (not-false _ (at-if2 .if2 .left)))
 
 pub line-at-spec : {M : Type 1} → statement M
 line-at-spec =

@@ -20,10 +20,10 @@ returns-2 c =
 
 returns-3 : tie.Need-returns-3
 returns-3 c =
-    let p = c .before .before .before .before .before .before .before in
+    let at-enum-told = c .before .before .before .before .before .before in
     told-unknown reportKinds _ _ _ (
       missed ofLine _ _ _ _ _ (c .enum-told2 .given .1) (c .before .before .line-at2 .ensures),
-      (missed logLine _ _ _ _ _ (p .enum-told .given .1) (p .before .before .line-at .ensures), tt),
+      (missed logLine _ _ _ _ _ (at-enum-told .enum-told .given .1) (at-enum-told .before .before .line-at .ensures), tt),
     )
 
 pub report-line-spec : {M : Type 1} → statement M

@@ -1,7 +1,7 @@
 -- `check_batch` meets its contract.
 use native.Mathlib.Omega.{arith}
 use Rattle.machine.proofs.Rulings.{broken, kept}
-use Rattle.verifier.proofs.Verdicts.{refused-4, refused-4-open, refused-5, report-few, past-report}
+use Rattle.verifier.proofs.Rows4To7.{refused-4, refused-4-open, refused-5, report-few, past-report}
 use borrow.Author.Needs.{needs}
 use Rattle.verifier.proofs.audits.check_batch.Statement.{statement}
 use Rattle.verifier.proofs.audits.check_batch.Tie as tie

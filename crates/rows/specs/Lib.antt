@@ -1,0 +1,2 @@
+-- What private functions promise: the rows themselves are the model's.
+pub mod Steps
