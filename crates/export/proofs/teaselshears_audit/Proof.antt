@@ -23,9 +23,12 @@ returns c = (no-room 6 _ _ _ (c .if1 .taken), (no-room 6 _ _ _ (c .if1 .taken), 
 
 returns-2 : tie.Need-returns-2
 returns-2 c =
-    let a = c .before .before .before .audit in
-    let h = c .before .before .before .before .before .if1 .left in
-    let f = c .before .before .fill-audited .ensures in (
+    let at-fill-audited = c .before .before in
+    let at-audit = at-fill-audited .before in
+    let at-if1 = at-audit .before .before in
+    let a = at-audit .audit in
+    let h = at-if1 .if1 .left in
+    let f = at-fill-audited .fill-audited .ensures in (
       room 6 _ _ _ h,
       (handed-in _ _ _ _ (ap auditNumbers (a .ensures .0)) f h, λ e. first-exactly _ _ _ f (a .ensures .1)),
     )

@@ -9,10 +9,9 @@ returns : tie.Need-returns
 returns c = (not-placed _ _ _ _ (c .if1 .taken), λ e. absurd (omega (arith, e)))
 
 returns-2 : tie.Need-returns-2
-returns-2 c = (
-  not-ordered _ _ _ _ _ _ (c .before .before .before .before .audit-order .ensures .1 .0) (c .enum-told .given .1),
-  λ e. absurd (omega (arith, e)),
-)
+returns-2 c =
+    let at-audit-order = c .before .before .before .before in
+    (not-ordered _ _ _ _ _ _ (at-audit-order .audit-order .ensures .1 .0) (c .enum-told .given .1), λ e. absurd (omega (arith, e)))
 
 returns-3 : tie.Need-returns-3
 returns-3 c =

@@ -22,8 +22,9 @@ fits-bytes r n buf e h = subst (λ r. Fits r buf) e h
 
 loop-again : tie.Need-loop-again Inv-loop μ-loop
 loop-again c =
-    let b = c .before .before in
-    (search needs, fits-bytes _ _ _ (b .now .given .1) (b .before .before .before .before .read-more .ensures))
+    let at-now = c .before .before in
+    let at-read-more = at-now .before .before .before .before in
+    (search needs, fits-bytes _ _ _ (at-now .now .given .1) (at-read-more .read-more .ensures))
 
 pub read-all-spec : {M : Type 1} → statement M
 read-all-spec =

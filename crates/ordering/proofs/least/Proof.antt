@@ -15,10 +15,9 @@ loop-holds c = searching-start _ _ _ _ _ _ (search needs)
 
 loop-again : tie.Need-loop-again Inv-loop μ-loop
 loop-again c =
-    searching-found _ _ _ _ _
-    (c .before .before .before .before .before .before .before .before .before .loop .found)
-    (c .before .before .before .before .before .before .before .before .before .loop .best)
-    _ _ (search needs) (search needs) (search needs) _ (search needs) (search needs) (c .if2 .taken)
+    let at-loop = c .before .before .before .before .before .before .before .before .before in
+    searching-found _ _ _ _ _ (at-loop .loop .found) (at-loop .loop .best) _ _
+    (search needs) (search needs) (search needs) _ (search needs) (search needs) (c .if2 .taken)
 
 loop-again-2 : tie.Need-loop-again-2 Inv-loop μ-loop
 loop-again-2 c = searching-other _ _ _ _ _ _ _ _ _ (search needs) (search needs) (search needs) _ (search needs) (c .if2 .left)

@@ -13,7 +13,9 @@ loop-holds : tie.Need-loop-holds Inv-loop μ-loop
 loop-holds c = linking-start _ _ _ _ _ (search needs) (search needs) (search needs)
 
 loop-again : tie.Need-loop-again Inv-loop μ-loop
-loop-again c = linking-back _ _ _ _ _ _ _ _ (search needs) (search needs) (c .before .before .before .before .loop .inv)
+loop-again c =
+    let at-loop = c .before .before .before .before in
+    linking-back _ _ _ _ _ _ _ _ (search needs) (search needs) (at-loop .loop .inv)
 
 returns : tie.Need-returns Inv-loop μ-loop
 returns c = linking-end _ _ _ _ _ _ _ (search needs) (c .before .loop .inv)

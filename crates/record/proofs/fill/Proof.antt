@@ -8,8 +8,9 @@ use Rattle.record.proofs.fill.Tie as tie
 
 returns : tie.Need-returns
 returns c =
+    let start = c .before .before .before .before .before in
     let p = c .before .record-text .ensures in
-    let w = put-whole _ _ _ _ (p .0) (omega (arith, p .1, c .before .before .before .before .before .pre)) in
+    let w = put-whole _ _ _ _ (p .0) (omega (arith, p .1, start .pre)) in
     (c .written .ensures ∙ w .0, (w .1, w .2))
 
 pub fill-spec : {M : Type 1} → statement M

@@ -23,10 +23,11 @@ slice-aggregate-put-recorded-2 c = sym (length-take-le _ _ (array-share-prefix-r
 
 returns : tie.Need-returns
 returns c =
-    let r = c .before .before .before .before .before .before .before .before .«record» in
+    let at-record = c .before .before .before .before .before .before .before .before in
+    let e = at-record .«record» .ensures .0 in
     let size = length-replicate {A = ℕ} 65535 0 in (
-      printed-put _ _ _ _ _ _ _ size size (r .ensures .0) _ _ _ (c .before .before .put-recorded .ensures),
-      printed-most _ _ _ _ _ _ _ size size (r .ensures .0) (search needs) (search needs),
+      printed-put _ _ _ _ _ _ _ size size e _ _ _ (c .before .before .put-recorded .ensures),
+      printed-most _ _ _ _ _ _ _ size size e (search needs) (search needs),
     )
 
 pub record-text-spec : {M : Type 1} → statement M

@@ -30,7 +30,9 @@ returns c =
     _ (c .before .before .line .given .1)) (c .refused .ensures)
 
 row-15-requires : tie.Need-row-15-requires
-row-15-requires c κs = start (c .before .before .before .before .before) .pre .movesRoom
+row-15-requires c κs =
+    let at-run-moves = c .before .before .before .before .before in
+    start at-run-moves .pre .movesRoom
 
 -- and from where row 15 was looked at
 module _ (c : tie.After-row-15) where

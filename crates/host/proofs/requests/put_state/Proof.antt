@@ -10,7 +10,8 @@ use Rattle.host.proofs.requests.put_state.Tie as tie
 returns : tie.Need-returns
 unfolding withRow
 returns c =
-    let a = c .before .before .before .before .before .before .before .before .args in
+    let start = c .before .before .before .before .before .before .before .before in
+    let a = start .args in
     sets-twelve (now (a .states)) (a .s * 12) _ _ _ _ _ _ _ _ _ _ _ _
 
 pub put-state-spec : {M : Type 1} → statement M

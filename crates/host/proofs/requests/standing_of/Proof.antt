@@ -12,15 +12,21 @@ returns c = none-there _ _ (c .if1 .taken) ∙ ap (standingIn _) (c .before .slo
 returns-2 : tie.Need-returns-2
 returns-2 c = none-so-high _ _ (c .before .if1 .left) (c .if2 .taken) ∙ ap (standingIn _) (c .before .before .slot-of .ensures)
 
+-- the way back from where the request's row was looked at
+abbrev at-if1 : tie.After-is-open → tie.Else1
+at-if1 p = p .before .before
+
 returns-3 : tie.Need-returns-3
 returns-3 c =
-    open-there _ _ (c .before .before .before .if1 .left) (c .before .before .if2 .left)
-    (sym (c .before .is-open .ensures) ∙ c .if3 .taken) ∙ ap (standingIn _) (c .before .before .before .before .slot-of .ensures)
+    let p = c .before in
+    open-there _ _ (at-if1 p .if1 .left) (p .before .if2 .left) (sym (p .is-open .ensures) ∙ c .if3 .taken)
+    ∙ ap (standingIn _) (at-if1 p .before .slot-of .ensures)
 
 returns-4 : tie.Need-returns-4
 returns-4 c =
-    shut-there _ _ (c .before .before .before .if1 .left) (c .before .before .if2 .left)
-    (sym (c .before .is-open .ensures) ∙ c .if3 .left) ∙ ap (standingIn _) (c .before .before .before .before .slot-of .ensures)
+    let p = c .before in
+    shut-there _ _ (at-if1 p .if1 .left) (p .before .if2 .left) (sym (p .is-open .ensures) ∙ c .if3 .left)
+    ∙ ap (standingIn _) (at-if1 p .before .slot-of .ensures)
 
 pub standing-of-spec : {M : Type 1} → statement M
 standing-of-spec =

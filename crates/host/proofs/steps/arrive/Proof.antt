@@ -23,10 +23,11 @@ returns-2 c = λ logs registers cells buckets.
 
 returns-3 : tie.Need-returns-3
 returns-3 c = λ logs registers cells buckets.
-    let s = c .before .before .before .before .before .before in
+    let at-if2 = c .before .before .before .before .before in
+    let at-slot-of = at-if2 .before in
     record {
-      unknown = λ h. absurd (omega (arith, h, s .before .before .if1 .left));
-      twice = λ h k. absurd (k (sym (s .slot-of .ensures) ∙ c .before .before .before .before .before .if2 .left));
+      unknown = λ h. absurd (omega (arith, h, at-slot-of .before .before .if1 .left));
+      twice = λ h k. absurd (k (sym (at-slot-of .slot-of .ensures) ∙ at-if2 .if2 .left));
       arrives = λ h k. (_, refl, c .open-request .ensures logs registers cells buckets);
     }
 

@@ -14,25 +14,32 @@ Inv-loop s at first v₀ i₀ v i = (i ≤ length s) × (spelling first s at ≡
 abbrev μ-loop : tie.MeasureT-loop
 μ-loop s at first v₀ i₀ v i = length s - i
 
+-- the way back from where a digit was pushed
+abbrev at-loop : tie.After-push Inv-loop μ-loop → tie.At-loop Inv-loop μ-loop
+at-loop r = r .before .before .before
+
 loop-again : tie.Need-loop-again Inv-loop μ-loop
 loop-again c =
-    let l = c .before .before .before .before .before .before .loop in (
+    let at-push = c .before .before .before in
+    let l = at-loop at-push .loop in (
       search needs,
       l .inv .1 ∙ spelling-on (l .v) _ _ (l .i) (search needs)
-          (sym (c .before .w .given .1) ∙ c .before .before .before .push .ensures),
+          (sym (c .before .w .given .1) ∙ at-push .push .ensures),
     )
 
 returns : tie.Need-returns Inv-loop μ-loop
 returns c =
-    let l = c .before .before .before .before .before .before .before .loop in
+    let at-push = c .before .before .before .before in
+    let l = at-loop at-push .loop in
     sym (l .inv .1 ∙ spelling-stop (l .v) _ (l .i) (search needs) (sym (c .before .ends .ensures) ∙ c .if1 .taken))
 
 returns-2 : tie.Need-returns-2 Inv-loop μ-loop
 returns-2 c =
-    let l = c .before .before .before .before .before .before .before .loop in
+    let at-push = c .before .before .before .before in
+    let l = at-loop at-push .loop in
     sym
     (l .inv .1 ∙ spelling-bad (l .v) _ (l .i) (search needs) (sym (c .before .ends .ensures) ∙ c .if1 .left)
-    (sym (c .before .before .enum-told .given .1) ∙ c .before .before .before .before .push .ensures))
+    (sym (c .before .before .enum-told .given .1) ∙ at-push .push .ensures))
 
 returns-3 : tie.Need-returns-3 Inv-loop μ-loop
 returns-3 c = let l = c .before .loop in sym (l .inv .1 ∙ spelling-out (l .v) _ (l .i) (search needs))

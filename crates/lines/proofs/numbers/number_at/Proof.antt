@@ -22,17 +22,25 @@ returns-4 c =
     let d = c .before .before .before .digit in
     spelled-zero-out _ _ (search needs) (d .result) (d .ensures .0 (search needs)) (search needs) (c .before .if3 .left) (search needs)
 
+-- the way back from where the byte behind a zero was looked at
+module _ (r : tie.After-ends) where
+  abbrev at-if3 : tie.Else3
+  at-if3 = r .before .before .before
+
+  abbrev at-digit : tie.After-digit
+  at-digit = at-if3 .before .before
+
 returns-5 : tie.Need-returns-5
 returns-5 c =
-    let d = c .before .before .before .before .before .before .digit in
+    let d = at-digit (c .before) .digit in
     spelled-zero-stop _ _ (search needs) (d .result) (d .ensures .0 (search needs)) (search needs)
-    (c .before .before .before .before .if3 .left) (search needs) (sym (c .before .ends .ensures) ∙ c .if5 .taken)
+    (at-if3 (c .before) .if3 .left) (search needs) (sym (c .before .ends .ensures) ∙ c .if5 .taken)
 
 returns-6 : tie.Need-returns-6
 returns-6 c =
-    let d = c .before .before .before .before .before .before .digit in
+    let d = at-digit (c .before) .digit in
     spelled-lead _ _ (search needs) (d .result) (d .ensures .0 (search needs)) (search needs)
-    (c .before .before .before .before .if3 .left) (search needs) (sym (c .before .ends .ensures) ∙ c .if5 .left)
+    (at-if3 (c .before) .if3 .left) (search needs) (sym (c .before .ends .ensures) ∙ c .if5 .left)
 
 pub number-at-spec : {M : Type 1} → statement M
 number-at-spec =

@@ -18,14 +18,18 @@ returns-3 c =
     let d = c .before .before .before .digit in
     push-above _ _ (d .result) (d .ensures .0 (search needs)) (search needs) (omega arith)
 
+-- the way back from where the value is neither small nor too large
+abbrev at-digit : tie.Else3 → tie.After-digit
+at-digit r = r .before .before .before
+
 returns-4 : tie.Need-returns-4
 returns-4 c =
-    let d = c .before .before .before .before .digit in
+    let d = at-digit (c .before) .digit in
     push-above _ _ (d .result) (d .ensures .0 (search needs)) (search needs) (omega arith)
 
 returns-5 : tie.Need-returns-5
 returns-5 c =
-    let d = c .before .before .before .before .digit in
+    let d = at-digit (c .before) .digit in
     push-value _ _ (d .result) (d .ensures .0 (search needs)) (search needs) _ (omega arith) (omega arith)
 
 pub push-spec : {M : Type 1} → statement M

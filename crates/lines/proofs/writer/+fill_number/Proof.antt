@@ -70,17 +70,18 @@ fill-number-fill-number-requires : (t : ℕ) → fill-number-lts.Need-fill-numbe
   fill-number-below t,
   fill-number.Post,
 ) (fill-number-at t) fill-number.Post
-fill-number-fill-number-requires t c κs = omega (arith, decimal-two-more (c .before .before .before .before .args .v) (search needs))
+fill-number-fill-number-requires t c κs =
+    let start = c .before .before .before .before in
+    omega (arith, decimal-two-more (start .args .v) (search needs))
 
--- the call wrote all but two digits
-wrote : (t : ℕ) (c : fill-number-lts.After-slice-known2 (fill-number-below t, fill-number.Post) (fill-number-at t) fill-number.Post) →
-    length (decimal (c .before .before .before .before .before .before .before .args .v)) ≡ c .before .before .fill-number .result + 2
-wrote t c =
-    omega (
-      arith,
-      decimal-two-more (c .before .before .before .before .before .before .before .args .v) (search needs),
-      c .before .before .fill-number .ensures .0,
-    )
+-- the way back from behind the call
+module _ (t : ℕ) (c : fill-number-lts.After-slice-known2 (fill-number-below t, fill-number.Post) (fill-number-at t) fill-number.Post) where
+  abbrev start : fill-number-lts.Start (fill-number-below t, fill-number.Post) (fill-number-at t) fill-number.Post
+  start = c .before .before .before .before .before .before .before
+
+  -- which wrote all but two digits
+  wrote : length (decimal (start .args .v)) ≡ c .before .before .fill-number .result + 2
+  wrote = omega (arith, decimal-two-more (start .args .v) (search needs), c .before .before .fill-number .ensures .0)
 
 fill-number-slice-write-out-4 : (t : ℕ) → fill-number-lts.Need-slice-write-out-4 (
   fill-number-below t,
@@ -111,7 +112,7 @@ fill-number-returns-3 : (t : ℕ) → fill-number-lts.Need-returns-3 (
   fill-number.Post,
 ) (fill-number-at t) fill-number.Post
 fill-number-returns-3 t c =
-    let a = c .before .before .before .before .before .before .before .args in
+    let a = start t c .args in
     let f = c .before .before .fill-number in
     (sym (wrote t c), front-two _ _ _ _ (now (a .out)) _ _ (decimal-hundreds (a .v) (search needs)) (f .ensures .0) (f .ensures .1) (search needs))
 

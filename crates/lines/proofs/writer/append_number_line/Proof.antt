@@ -10,9 +10,15 @@ returns c = append-behind _ _ _ (c .if1 .taken)
 
 add-result : tie.Need-add-result
 add-result c =
-    let p = c .before .before .before in
-    let a = p .before .before .before .before .before .args in
-    omega (arith, append-within _ (a .out .now) (a .at) _ _ (p .before .before .if1 .left) (p .put-number-line .ensures), c .written .ensures)
+    let at-put-number-line = c .before .before .before in
+    let at-if1 = at-put-number-line .before .before in
+    let start = at-if1 .before .before .before in
+    let a = start .args in
+    omega (
+      arith,
+      append-within _ (a .out .now) (a .at) _ _ (at-if1 .if1 .left) (at-put-number-line .put-number-line .ensures),
+      c .written .ensures,
+    )
 
 returns-2 : tie.Need-returns-2
 returns-2 c = append-put _ _ _ _ _ _ (c .before .before .before .put-number-line .ensures) (c .written .ensures)

@@ -19,20 +19,26 @@ returns c =
     let vs = take (a .f .n) (a .f .v) in
     put-short _ _ (omega (arith, line-length w vs))
 
+-- the way back from where the numbers were clamped
+abbrev start : tie.After-clamped → tie.Start
+start r = r .before .before .before .before
+
 returns-2 : tie.Need-returns-2
 returns-2 c =
-    let a = c .before .before .before .before .before .before .before .args in
+    let at-clamped = c .before .before .before in
+    let a = start at-clamped .args in
     let w = now (a .w) in
     let vs = take (a .f .n) (a .f .v) in
-    let e = ap (λ us. length (numbersText us)) (c .before .before .before .clamped .ensures .1) in
+    let e = ap (λ us. length (numbersText us)) (at-clamped .clamped .ensures .1) in
     put-short _ _ (omega (arith, line-length w vs, c .before .widths .ensures .0, e))
 
 -- measured, or the room is enough for any six numbers
 fits : (c : tie.Joined2) →
-    length (lineText (now (c .before .before .before .before .before .args .w)) (take (c .before .clamped .result .n) (c .before .clamped .result .v)))
-    ≤ length (now (c .before .before .before .before .before .args .out))
+    let a = start (c .before) .args in
+    let g = c .before .clamped .result in
+    length (lineText (now (a .w)) (take (g .n) (g .v))) ≤ length (now (a .out))
 fits c =
-    let a = c .before .before .before .before .before .args in
+    let a = start (c .before) .args in
     let g = c .before .clamped .result in
     let l = line-length (now (a .w)) (take (g .n) (g .v)) in
     let m = numbers-most (g .v) (g .n) (λ i. search needs) in
@@ -44,8 +50,8 @@ fill-line-requires c κs = (c .before .before .clamped .ensures .0, fits (c .bef
 returns-3 : tie.Need-returns-3
 returns-3 c =
     let f = c .before .before .fill-line in
-    let j = c .before .before .before .before in
-    rw (← j .before .clamped .ensures .1) (put-fits _ _ _ _ (fits j) (f .ensures .0) (f .ensures .1))
+    let at-if2 = c .before .before .before .before in
+    rw (← at-if2 .before .clamped .ensures .1) (put-fits _ _ _ _ (fits at-if2) (f .ensures .0) (f .ensures .1))
 
 pub put-line-spec : {M : Type 1} → statement M
 put-line-spec =

@@ -10,8 +10,10 @@ returns c = put-short _ _ (omega (arith, c .before .width .ensures .0))
 
 returns-2 : tie.Need-returns-2
 returns-2 c =
-    let f = c .before .before .fill-number in
-    put-fits _ _ _ _ (omega (arith, c .before .before .before .before .before .width .ensures .0)) (f .ensures .0) (f .ensures .1)
+    let at-fill-number = c .before .before in
+    let at-width = at-fill-number .before .before .before in
+    let f = at-fill-number .fill-number in
+    put-fits _ _ _ _ (omega (arith, at-width .width .ensures .0)) (f .ensures .0) (f .ensures .1)
 
 pub put-number-spec : {M : Type 1} → statement M
 put-number-spec =

@@ -24,8 +24,9 @@ loop-holds c =
 
 loop-again : tie.Need-loop-again Inv-loop μ-loop
 loop-again c =
-    let l = c .before .before .loop in
-    let f = c .before .before .before .before .args .f in
+    let at-loop = c .before .before in
+    let l = at-loop .loop in
+    let f = at-loop .before .before .args .f in
     let e = numbers-next (f .v) (f .n) (l .i) (search needs) (omega arith) in
     omega (arith, c .width .ensures .0, simp length-append at (ap length e))
 

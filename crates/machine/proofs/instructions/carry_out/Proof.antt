@@ -26,19 +26,26 @@ returns-2 c = rw (c .before .before .match .keys2) (c .becomes .ensures)
 
 returns-3 : tie.Need-returns-3
 unfolding effectAs
-returns-3 c = rw (c .before .before .before .before .before .before .before .match .keys3) (cc)
+returns-3 c =
+    let at-match = c .before .before .before .before .before .before .before in
+    rw (at-match .match .keys3) (cc)
 
 returns-4 : tie.Need-returns-4
 unfolding effectAs
 returns-4 c =
-    let x = c .before .before .before .before .before .local-at4 .result in
-    let y = c .before .before .before .local-at5 .result in
+    let at-local-at5 = c .before .before .before in
+    let at-local-at4 = at-local-at5 .before .before in
+    let at-match = at-local-at4 .before .before in
+    let x = at-local-at4 .local-at4 .result in
+    let y = at-local-at5 .local-at5 .result in
     let e : c .before .before .wrapping-sub-u64 .result ≡ (x + (2 ^ 64 - y)) % 2 ^ 64 = omega arith in
-    rw (c .before .before .before .before .before .before .before .match .keys4) (cc)
+    rw (at-match .match .keys4) (cc)
 
 returns-5 : tie.Need-returns-5
 unfolding effectAs
-returns-5 c = rw (c .before .before .before .before .before .before .before .match .keys5) (cc)
+returns-5 c =
+    let at-match = c .before .before .before .before .before .before .before in
+    rw (at-match .match .keys5) (cc)
 
 returns-6 : tie.Need-returns-6
 unfolding effectAs

@@ -33,12 +33,14 @@ abbrev μ-table : tie.MeasureT-table
 
 loop-holds : tie.Need-loop-holds Inv-loop μ-loop Inv-table μ-table
 loop-holds c =
-    program-kept (c .before .before .before .before .table .inv) (c .before .before .before .table-test .taken)
+    let at-table-test = c .before .before .before in
+    program-kept (at-table-test .before .table .inv) (at-table-test .table-test .taken)
     (sym (c .before .head-keeps .ensures) ∙ not-false _ (c .if1 .left))
 
 loop-again : tie.Need-loop-again Inv-loop μ-loop Inv-table μ-table
 loop-again c =
-    instruction-kept (c .before .before .before .before .loop .inv) (c .before .before .before .loop-test .taken)
+    let at-loop-test = c .before .before .before in
+    instruction-kept (at-loop-test .before .loop .inv) (at-loop-test .loop-test .taken)
     (sym (c .before .body-keeps .ensures) ∙ not-false _ (c .if2 .left))
 
 table-again : tie.Need-table-again Inv-loop μ-loop Inv-table μ-table

@@ -17,30 +17,43 @@ row n = sym (List·getD-map fieldsOf codes n other)
 returns : tie.Need-returns
 returns c = rw (le-ltb _ _ (c .if1 .taken))
 
+-- the way back from where the first field was looked at
+module _ (r : tie.After-fits2) where
+  abbrev at-if1 : tie.Else1
+  at-if1 = r .before .before
+
+  abbrev start : tie.Start
+  start = at-if1 .before
+
 returns-2 : tie.Need-returns-2
 returns-2 c =
+    let at-fits2 = c .before in
     rw (
-      lt-ltb _ _ (c .before .before .before .if1 .left),
-      row (c .before .before .before .before .args .i .code),
-      sym (c .before .fits2 .ensures) ∙ not-true _ (c .if2 .taken),
+      lt-ltb _ _ (at-if1 at-fits2 .if1 .left),
+      row (start at-fits2 .args .i .code),
+      sym (at-fits2 .fits2 .ensures) ∙ not-true _ (c .if2 .taken),
     )
 
 returns-3 : tie.Need-returns-3
 returns-3 c =
+    let at-if2 = c .before .before in
+    let at-fits2 = at-if2 .before in
     rw (
-      lt-ltb _ _ (c .before .before .before .before .before .if1 .left),
-      row (c .before .before .before .before .before .before .args .i .code),
-      sym (c .before .before .before .fits2 .ensures) ∙ not-false _ (c .before .before .if2 .left),
+      lt-ltb _ _ (at-if1 at-fits2 .if1 .left),
+      row (start at-fits2 .args .i .code),
+      sym (at-fits2 .fits2 .ensures) ∙ not-false _ (at-if2 .if2 .left),
       sym (c .before .fits3 .ensures) ∙ not-true _ (c .if3 .taken),
     )
 
 returns-4 : tie.Need-returns-4
 returns-4 c =
+    let at-if2 = c .before .before .before in
+    let at-fits2 = at-if2 .before in
     rw (
       c .fits4 .ensures,
-      lt-ltb _ _ (c .before .before .before .before .before .before .if1 .left),
-      row (c .before .before .before .before .before .before .before .args .i .code),
-      sym (c .before .before .before .before .fits2 .ensures) ∙ not-false _ (c .before .before .before .if2 .left),
+      lt-ltb _ _ (at-if1 at-fits2 .if1 .left),
+      row (start at-fits2 .args .i .code),
+      sym (at-fits2 .fits2 .ensures) ∙ not-false _ (at-if2 .if2 .left),
       sym (c .before .before .fits3 .ensures) ∙ not-false _ (c .before .if3 .left),
     )
 

@@ -21,37 +21,49 @@ loop-holds c =
     walk-start _ _ (s .pre .0) (s .args .heads .now) (s .args .afters .now) _ _ (s .pre .1) _
     (c .index-of .ensures ∙ ap (λ b. getD (s .args .heads .now) b 0) (c .before .before .bucket .ensures))
 
+-- the way back from the loop
+abbrev start : tie.At-loop Inv-loop μ-loop → tie.Start Inv-loop μ-loop
+start l = l .before .before .before .before
+
+-- and from where a line was tested
+module _ (q : tie.After-is-claim Inv-loop μ-loop) where
+  abbrev at-loop-test : tie.In-loop Inv-loop μ-loop
+  at-loop-test = q .before
+
+  abbrev at-loop : tie.At-loop Inv-loop μ-loop
+  at-loop = at-loop-test .before
+
 returns : tie.Need-returns Inv-loop μ-loop
 returns c =
-    let s = c .before .before .before .before .before .before .before in
-    walk-hit _ _ (s .pre .0) (s .args .heads .now) (s .args .afters .now) _ _ (s .pre .1) _ (c .before .before .before .loop .inv)
-    (sym (c .before .is-claim .ensures) ∙ c .if1 .taken)
+    let q = c .before in
+    let s = start (at-loop q) in
+    walk-hit _ _ (s .pre .0) (s .args .heads .now) (s .args .afters .now) _ _ (s .pre .1) _ (at-loop q .loop .inv)
+    (sym (q .is-claim .ensures) ∙ c .if1 .taken)
 
 element-copy-out-index-of-2 : tie.Need-element-copy-out-index-of-2 Inv-loop μ-loop
 element-copy-out-index-of-2 c = search needs
 
 loop-less : tie.Need-loop-less Inv-loop μ-loop
 loop-less c =
-    let at-loop-test = c .before .before .before .before in
-    let at-loop = at-loop-test .before in
-    let at-before = at-loop .before .before .before in
-    let s = at-before .before in
+    let q = c .before .before .before in
+    let s = start (at-loop q) in
     omega (
       arith,
       walk-down _ _ (s .pre .0) (s .args .heads .now) (s .args .afters .now) _ _ (s .pre .1) _
-          (at-loop .loop .inv) (at-loop-test .loop-test .taken) _ (c .index-of2 .ensures),
+          (at-loop q .loop .inv) (at-loop-test q .loop-test .taken) _ (c .index-of2 .ensures),
     )
 
 loop-again : tie.Need-loop-again Inv-loop μ-loop
 loop-again c =
-    let s = c .before .before .before .before .before .before .before .before .before in
+    let q = c .before .before .before in
+    let s = start (at-loop q) in
     walk-on _ _ (s .pre .0) (s .args .heads .now) (s .args .afters .now) _ _ (s .pre .1) _
-    (c .before .before .before .before .before .loop .inv) (c .before .before .before .before .loop-test .taken) _ (c .index-of2 .ensures)
-    (sym (c .before .before .before .is-claim .ensures) ∙ c .before .before .if1 .left)
+    (at-loop q .loop .inv) (at-loop-test q .loop-test .taken) _ (c .index-of2 .ensures)
+    (sym (q .is-claim .ensures) ∙ c .before .before .if1 .left)
 
 returns-2 : tie.Need-returns-2 Inv-loop μ-loop
 returns-2 c =
-    let s = c .before .before .before .before .before in
+    let s = start (c .before) in
     walk-end _ _ (s .pre .0) (s .args .heads .now) (s .args .afters .now) _ _ (s .pre .1) _ (c .before .loop .inv) (omega arith)
 
 pub claim-at-spec : {M : Type 1} → statement M

@@ -1,5 +1,5 @@
 -- `event_of` meets its contract. The invariant: the lines passed are not the one that is looked for.
-use mathlib.Core.Path.{sym, ap, _∙_}
+use mathlib.Core.Path.{_≡_, sym, ap, _∙_}
 use Prim.Native.Nat.{_-_, _≤_}
 use native.Mathlib.Omega.{arith}
 use borrow.Author.Count.{below-more}
@@ -19,19 +19,25 @@ abbrev μ-loop : tie.MeasureT-loop
 loop-holds : tie.Need-loop-holds Inv-loop μ-loop
 loop-holds c = (omega arith, λ k h _. absurd (omega arith))
 
+-- the way back from where a line was tested, and what the test says of it
+module _ (q : tie.After-is-of Inv-loop μ-loop) where
+  abbrev at-loop : tie.At-loop Inv-loop μ-loop
+  at-loop = q .before .before .before
+
+  tested : let a = at-loop .before .args in isOf (a .response) (a .rid) (eventAt (a .events .now) (at-loop .loop .i)) ≡ q .is-of .result
+  tested =
+      let a = at-loop .before .args in
+      ap (isOf (a .response) (a .rid)) (sym (q .before .event-at .ensures)) ∙ sym (q .is-of .ensures)
+
 returns : tie.Need-returns Inv-loop μ-loop
 returns c =
-    let a = c .before .before .before .before .before .args in
-    here _ _ _ _ (c .before .before .before .before .loop .inv .1) (omega arith)
-    (ap (isOf (a .response) (a .rid)) (sym (c .before .before .event-at .ensures)) ∙ sym (c .before .is-of .ensures) ∙ c .if1 .taken)
+    let q = c .before in
+    here _ _ _ _ (at-loop q .loop .inv .1) (omega arith) (tested q ∙ c .if1 .taken)
 
 loop-again : tie.Need-loop-again Inv-loop μ-loop
 loop-again c =
-    let a = c .before .before .before .before .before .args in (
-      omega arith,
-      below-more _ _ (c .before .before .before .before .loop .inv .1)
-          (λ _. ap (isOf (a .response) (a .rid)) (sym (c .before .before .event-at .ensures)) ∙ sym (c .before .is-of .ensures) ∙ c .if1 .left),
-    )
+    let q = c .before in
+    (omega arith, below-more _ _ (at-loop q .loop .inv .1) (λ _. tested q ∙ c .if1 .left))
 
 returns-2 : tie.Need-returns-2 Inv-loop μ-loop
 returns-2 c = nowhere _ _ _ _ (c .before .loop .inv .1) (omega arith)

@@ -20,18 +20,20 @@ abbrev μ-loop : tie.MeasureT-loop
 loop-holds : tie.Need-loop-holds Inv-loop μ-loop
 loop-holds c = (omega arith, λ k h _. absurd (omega arith))
 
+-- the way back from where a line was read
+abbrev at-loop : tie.After-of-at2 Inv-loop μ-loop → tie.At-loop Inv-loop μ-loop
+at-loop r = r .before .before
+
 returns : tie.Need-returns Inv-loop μ-loop
 returns c =
-    rw (sym (c .before .before .before .before .before .of-at .ensures))
-    (here _ _ _ _ (c .before .before .before .before .loop .inv .1) (omega arith) (rw (sym (c .before .before .of-at2 .ensures))
-    (eq-eqb _ _ (c .if1 .taken))))
+    let r = c .before .before in
+    rw (sym (at-loop r .before .of-at .ensures))
+    (here _ _ _ _ (at-loop r .loop .inv .1) (omega arith) (rw (sym (r .of-at2 .ensures)) (eq-eqb _ _ (c .if1 .taken))))
 
 loop-again : tie.Need-loop-again Inv-loop μ-loop
-loop-again c = (
-  omega arith,
-  below-more _ _ (c .before .before .before .before .loop .inv .1)
-      (λ _. rw (sym (c .before .before .of-at2 .ensures)) (ne-eqb _ _ (c .if1 .left))),
-)
+loop-again c =
+    let r = c .before .before in
+    (omega arith, below-more _ _ (at-loop r .loop .inv .1) (λ _. rw (sym (r .of-at2 .ensures)) (ne-eqb _ _ (c .if1 .left))))
 
 returns-2 : tie.Need-returns-2 Inv-loop μ-loop
 returns-2 c = rw (sym (c .before .before .of-at .ensures)) (nowhere _ _ _ _ (c .before .loop .inv .1) (omega arith))

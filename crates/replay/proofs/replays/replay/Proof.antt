@@ -16,49 +16,68 @@ abbrev μ-loop : tie.MeasureT-loop
 loop-holds : tie.Need-loop-holds Inv-loop μ-loop
 loop-holds c = going-start _ _ _ _ _ _ _ _ _ (omega arith) (c .before .pre .1)
 
+-- the way back from where an instruction was carried out
+module _ (r : tie.After-carry-out Inv-loop μ-loop) where
+  abbrev at-loop-test : tie.In-loop Inv-loop μ-loop
+  at-loop-test = r .before .before .before
+
+  abbrev at-loop : tie.At-loop Inv-loop μ-loop
+  at-loop = at-loop-test .before
+
+  abbrev at-first-locals : tie.After-first-locals Inv-loop μ-loop
+  at-first-locals = at-loop .before
+
 loop-again : tie.Need-loop-again Inv-loop μ-loop
 loop-again c =
-    let h = c .before .before .before .before .before .before .before .loop in
-    going-moved _ _ _ _ _ _ _ _ _ _ _ _ _ _ (h .inv) (c .before .before .before .before .before .before .loop-test .taken)
-    _ _ (c .before .before .before .carry-out .ensures)
+    let r = c .before .before .before in
+    going-moved _ _ _ _ _ _ _ _ _ _ _ _ _ _ (at-loop r .loop .inv) (at-loop-test r .loop-test .taken)
+    _ _ (r .carry-out .ensures)
     _ (c .before .to .given .1)
 
 returns : tie.Need-returns Inv-loop μ-loop
 returns c =
-    let h = c .before .before .before .before .before .before .before .before .loop in
-    going-over _ _ _ _ _ _ _ _ _ _ _ _ _ _ (h .inv) (c .before .before .before .before .before .before .before .loop-test .taken)
-    _ _ (c .before .before .before .before .carry-out .ensures)
+    let r = c .before .before .before .before in
+    going-over _ _ _ _ _ _ _ _ _ _ _ _ _ _ (at-loop r .loop .inv) (at-loop-test r .loop-test .taken)
+    _ _ (r .carry-out .ensures)
     _ _ (c .before .before .o .given .1) (c .if1 .taken)
-    _ _ (c .before .before .before .before .before .before .before .before .before .first-locals .ensures)
+    _ _ (at-first-locals r .first-locals .ensures)
+
+-- and from where an operation's answer was looked up
+module _ (a : tie.After-answer-of Inv-loop μ-loop) where
+  abbrev at-o : tie.After-o Inv-loop μ-loop
+  at-o = a .before .before .before
+
+  abbrev at-carry-out : tie.After-carry-out Inv-loop μ-loop
+  at-carry-out = at-o .before .before
 
 returns-2 : tie.Need-returns-2 Inv-loop μ-loop
 returns-2 c =
-    let h = c .before .before .before .before .before .before .before .before .before .before .before .loop in
-    going-wrong _ _ _ _ _ _ _ _ _ _ _ _ _ _ (h .inv)
-    (c .before .before .before .before .before .before .before .before .before .before .loop-test .taken)
-    _ _ (c .before .before .before .before .before .before .before .carry-out .ensures)
-    _ _ (c .before .before .before .before .before .o .given .1) (c .before .before .before .if1 .left)
-    _ (c .before .before .answer-of .ensures) (c .enum-told .given .1)
-    _ _ (c .before .before .before .before .before .before .before .before .before .before .before .before .first-locals .ensures)
+    let a = c .before .before in
+    let r = at-carry-out a in
+    going-wrong _ _ _ _ _ _ _ _ _ _ _ _ _ _ (at-loop r .loop .inv) (at-loop-test r .loop-test .taken)
+    _ _ (r .carry-out .ensures)
+    _ _ (at-o a .o .given .1) (a .before .if1 .left)
+    _ (a .answer-of .ensures) (c .enum-told .given .1)
+    _ _ (at-first-locals r .first-locals .ensures)
 
 loop-again-2 : tie.Need-loop-again-2 Inv-loop μ-loop
 loop-again-2 c =
-    let h = c .before .before .before .before .before .before .before .before .before .before .before .before .before .before .loop in
+    let at-v = c .before .before .before in
+    let a = at-v .before .before in
+    let r = at-carry-out a in
     rw (c .resume .ensures)
-    (going-right _ _ _ _ _ _ _ _ _ _ _ _ _ _ (h .inv)
-    (c .before .before .before .before .before .before .before .before .before .before .before .before .before .loop-test .taken)
-    _ _ (c .before .before .before .before .before .before .before .before .before .before .carry-out .ensures)
-    _ _ (c .before .before .before .before .before .before .before .before .o .given .1)
-    (c .before .before .before .before .before .before .if1 .left) _ _ (c .before .before .before .before .before .answer-of .ensures)
-    (c .before .before .before .v .given .1))
+    (going-right _ _ _ _ _ _ _ _ _ _ _ _ _ _ (at-loop r .loop .inv) (at-loop-test r .loop-test .taken)
+    _ _ (r .carry-out .ensures)
+    _ _ (at-o a .o .given .1) (a .before .if1 .left)
+    _ _ (a .answer-of .ensures) (at-v .v .given .1))
 
 returns-3 : tie.Need-returns-3 Inv-loop μ-loop
 returns-3 c =
-    let h = c .before .before .before .before .before .before .before .before .loop in
-    going-replied _ _ _ _ _ _ _ _ _ _ _ _ _ _ (h .inv) (c .before .before .before .before .before .before .before .loop-test .taken)
-    _ _ (c .before .before .before .before .carry-out .ensures)
+    let r = c .before .before .before .before in
+    going-replied _ _ _ _ _ _ _ _ _ _ _ _ _ _ (at-loop r .loop .inv) (at-loop-test r .loop-test .taken)
+    _ _ (r .carry-out .ensures)
     _ (c .before .before .v2 .given .1) _ (c .stopped .ensures)
-    _ _ (c .before .before .before .before .before .before .before .before .before .first-locals .ensures)
+    _ _ (at-first-locals r .first-locals .ensures)
 
 returns-4 : tie.Need-returns-4 Inv-loop μ-loop
 returns-4 c =

@@ -19,12 +19,16 @@ returns-2 c = rw (ne-eqb _ _ (c .if2 .taken))
 
 returns-3 : tie.Need-returns-3
 returns-3 c =
-    let a = c .before .before .before .before .before .before .before .args in
-    rw (eq-eqb _ _ (c .before .before .before .if2 .left))
+    let at-if2 = c .before .before .before in
+    let start = at-if2 .before .before .before .before in
+    let a = start .args in
+    rw (eq-eqb _ _ (at-if2 .if2 .left))
     (lengths-differ (a .paths .now) (a .k * 256) (a .f * 256) _ _ (λ e. c .if3 .taken (sym e)))
 
 returns-4 : tie.Need-returns-4
-returns-4 c = rw (eq-eqb _ _ (c .before .before .before .before .if2 .left), c .before .if3 .left) (c .same-path .ensures)
+returns-4 c =
+    let at-if2 = c .before .before .before .before in
+    rw (eq-eqb _ _ (at-if2 .if2 .left), c .before .if3 .left) (c .same-path .ensures)
 
 pub along-spec : {M : Type 1} → statement M
 along-spec =

@@ -114,9 +114,9 @@ judge-requests-spec =
     (λ c. search needs)
     (λ c. search needs)
     row-of-requires
-    (λ c. omega (arith, at-loop (c .before .before .before .before .before .before) .loop .inv .few))
+    (λ c. omega (arith, at-loop (at-replay (c .before)) .loop .inv .few))
     returns
-    (λ c. omega (arith, at-loop (c .before .before .before .before .before .before) .loop .inv .few))
+    (λ c. omega (arith, at-loop (at-replay (c .before)) .loop .inv .few))
     (λ c. search needs)
     loop-again
     returns-2)

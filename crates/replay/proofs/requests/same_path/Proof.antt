@@ -19,16 +19,23 @@ abbrev μ-loop : tie.MeasureT-loop
 loop-holds : tie.Need-loop-holds Inv-loop μ-loop
 loop-holds c = (c .pre .0, c .pre .1, c .pre .2, omega arith, λ q h. absurd (omega arith))
 
+-- the way back from where two positions were read
+module _ (r : tie.After-if13 Inv-loop μ-loop) where
+  abbrev at-loop-test : tie.In-loop Inv-loop μ-loop
+  at-loop-test = r .before .before
+
+  abbrev at-loop : tie.At-loop Inv-loop μ-loop
+  at-loop = at-loop-test .before
+
 returns : tie.Need-returns Inv-loop μ-loop
 returns c =
-    let h = c .before .before .before .before in
-    let a = h .before .args in
-    paths-differ (a .paths .now) (a .j * 256) (a .k * 256) (a .done) (h .loop .i) (c .before .before .before .loop-test .taken)
-    (c .if1 .taken)
+    let r = c .before in
+    let a = at-loop r .before .args in
+    paths-differ (a .paths .now) (a .j * 256) (a .k * 256) (a .done) (at-loop r .loop .i) (at-loop-test r .loop-test .taken) (c .if1 .taken)
 
 loop-again : tie.Need-loop-again Inv-loop μ-loop
 loop-again c =
-    let v = c .before .before .before .before .loop .inv in
+    let v = at-loop (c .before) .loop .inv in
     (v .0, v .1, v .2, omega arith, below-more _ _ (v .4) (c .if1 .left))
 
 returns-2 : tie.Need-returns-2 Inv-loop μ-loop

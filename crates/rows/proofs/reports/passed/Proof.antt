@@ -37,12 +37,16 @@ returns-2 c = c .before .before .loop .inv
 among-requires-2 : tie.Need-among-requires-2 Inv-loop μ-loop
 among-requires-2 c κs = omega (arith, c .before .before .before .pre)
 
+-- the way back from where the last block was looked at
+abbrev at-loop : tie.After-among2 Inv-loop μ-loop → tie.At-loop Inv-loop μ-loop
+at-loop r = r .before .before .before
+
 returns-3 : tie.Need-returns-3 Inv-loop μ-loop
-returns-3 c = c .before .before .before .before .loop .inv
+returns-3 c = at-loop (c .before) .loop .inv
 
 returns-4 : tie.Need-returns-4 Inv-loop μ-loop
 returns-4 c =
-    let s = c .before .before .before .before .loop .inv in
+    let s = at-loop (c .before) .loop .inv in
     without-more s _ 16 _ (omega (arith, s .within)) (omega arith) (omega arith) (sym (c .before .among2 .ensures) ∙ c .if3 .left)
 
 pub passed-spec : {M : Type 1} → statement M

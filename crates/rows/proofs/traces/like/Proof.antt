@@ -4,13 +4,17 @@ use Rattle.rows.proofs.traces.like.Statement.{statement}
 use Rattle.rows.proofs.traces.like.Tie as tie
 
 returns : tie.Need-returns
-returns c = rw (c .before .before .before .before .d .given .1, c .before .e .given .1)
+returns c =
+    let at-d = c .before .before .before .before in
+    rw (at-d .d .given .1, c .before .e .given .1)
 
 returns-2 : tie.Need-returns-2
 returns-2 c = rw (c .before .before .before .d .given .1, c .enum-told .given .1)
 
 returns-4 : tie.Need-returns-4
-returns-4 c = rw (c .before .before .before .before .d2 .given .1, c .before .e2 .given .1)
+returns-4 c =
+    let at-d2 = c .before .before .before .before in
+    rw (at-d2 .d2 .given .1, c .before .e2 .given .1)
 
 pub like-spec : {M : Type 1} → statement M
 like-spec =

@@ -11,7 +11,9 @@ returns-2 : tie.Need-returns-2
 returns-2 c = move-turn _ _ _ _ (c .before .number-of .ensures) (search needs)
 
 returns-3 : tie.Need-returns-3
-returns-3 c = move-arrive _ _ _ _ (c .before .before .before .before .before .number-of .ensures) (search needs)
+returns-3 c =
+    let at-number-of = c .before .before .before .before .before in
+    move-arrive _ _ _ _ (at-number-of .number-of .ensures) (search needs)
 
 pub move-at-spec : {M : Type 1} → statement M
 move-at-spec =

@@ -11,8 +11,9 @@ use Rattle.text.proofs.schedule.put_move.Tie as tie
 returns : tie.Need-returns
 unfolding withMove
 returns c =
-    let a = c .before .before .before .before .args in
-    (ap (set (now (a .moves)) (a .i)) (c .code-of .ensures), c .before .before .put-arrival .ensures)
+    let at-put-arrival = c .before .before in
+    let a = at-put-arrival .before .before .args in
+    (ap (set (now (a .moves)) (a .i)) (c .code-of .ensures), at-put-arrival .put-arrival .ensures)
 
 returns-2 : tie.Need-returns-2
 unfolding withMove

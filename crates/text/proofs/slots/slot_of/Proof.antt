@@ -28,13 +28,15 @@ loop-holds c =
 
 returns : tie.Need-returns Inv-loop μ-loop
 returns c =
-    let h = c .before .before .before .before .loop .inv in
-    (omega arith, here _ _ _ _ (h .1) (h .0) (rw (sym (c .before .before .of-at .ensures)) (eq-eqb _ _ (c .if1 .taken))))
+    let at-of-at = c .before .before in
+    let h = at-of-at .before .before .loop .inv in
+    (omega arith, here _ _ _ _ (h .1) (h .0) (rw (sym (at-of-at .of-at .ensures)) (eq-eqb _ _ (c .if1 .taken))))
 
 loop-again : tie.Need-loop-again Inv-loop μ-loop
 loop-again c =
-    let h = c .before .before .before .before .loop .inv in
-    (omega (arith, h .0), below-more _ _ (h .1) (λ _. rw (sym (c .before .before .of-at .ensures)) (ne-eqb _ _ (c .if1 .left))))
+    let at-of-at = c .before .before in
+    let h = at-of-at .before .before .loop .inv in
+    (omega (arith, h .0), below-more _ _ (h .1) (λ _. rw (sym (at-of-at .of-at .ensures)) (ne-eqb _ _ (c .if1 .left))))
 
 returns-2 : tie.Need-returns-2 Inv-loop μ-loop
 returns-2 c = (omega arith, nowhere _ _ _ _ (c .before .loop .inv .1) (omega arith))

@@ -5,7 +5,9 @@ use Rattle.text.proofs.trace.event_at.Statement.{statement}
 use Rattle.text.proofs.trace.event_at.Tie as tie
 
 returns : tie.Need-returns
-returns c = event-request _ _ (c .before .before .before .before .if1 .taken)
+returns c =
+    let at-if1 = c .before .before .before .before in
+    event-request _ _ (at-if1 .if1 .taken)
 
 returns-2 : tie.Need-returns-2
 returns-2 c = event-response _ _ (c .before .before .before .if1 .left)

@@ -95,7 +95,8 @@ returns-5 c =
 
 put-numbers-requires : tie.Need-put-numbers-requires
 put-numbers-requires c κs =
-    let f = found (c .before .before .before .before .before .before) in
+    let at-result = c .before .before .before .before .before .before in
+    let f = found at-result in
     (f .fewEvents, f .fewEntries)
 
 returns-6 : tie.Need-returns-6

@@ -16,32 +16,40 @@ abbrev μ-loop : tie.MeasureT-loop
 loop-holds : tie.Need-loop-holds Inv-loop μ-loop
 loop-holds c = λ events. filling-start events _ _ _ _ _ (c .before .pre .1)
 
+-- the way back from where an item was read
+module _ (x : tie.After-index-of Inv-loop μ-loop) where
+  abbrev at-loop : tie.At-loop Inv-loop μ-loop
+  at-loop = x .before .before .before
+
+  abbrev start : tie.Start Inv-loop μ-loop
+  start = at-loop .before .before
+
 put-item-requires : tie.Need-put-item-requires Inv-loop μ-loop
 put-item-requires c κs =
-    let at-loop = c .before .before .before .before .before .before in
-    (omega (arith, at-loop .loop .inv [] .some, at-loop .before .before .pre .0), filling-room [] _ _ _ _ _ _ _ _ (at-loop .loop .inv []) (search needs))
+    let x = c .before .before .before in
+    (omega (arith, at-loop x .loop .inv [] .some, start x .pre .0), filling-room [] _ _ _ _ _ _ _ _ (at-loop x .loop .inv []) (search needs))
 
 loop-again : tie.Need-loop-again Inv-loop μ-loop
 loop-again c =
     let at-entry-at = c .before .before .before .before in
-    let at-index-of = at-entry-at .before .before in
-    λ events. filling-operation events _ _ _ _ _ _ _ _ (at-index-of .before .before .before .loop .inv events) (search needs) _ (at-index-of .index-of .ensures) (search needs)
+    let x = at-entry-at .before .before in
+    λ events. filling-operation events _ _ _ _ _ _ _ _ (at-loop x .loop .inv events) (search needs) _ (x .index-of .ensures) (search needs)
     _ (at-entry-at .entry-at .ensures) _ (c .before .before .put-item .ensures)
 
 add-line : tie.Need-add-line Inv-loop μ-loop
 add-line c =
-    let at-loop = c .before .before .before .before in
-    omega (arith, at-loop .loop .inv [] .few, at-loop .loop .inv [] .some, at-loop .before .before .pre .0)
+    let x = c .before in
+    omega (arith, at-loop x .loop .inv [] .few, at-loop x .loop .inv [] .some, start x .pre .0)
 
 put-item-requires-2 : tie.Need-put-item-requires-2 Inv-loop μ-loop
 put-item-requires-2 c κs =
-    let at-loop = c .before .before .before .before .before in
-    (omega (arith, at-loop .loop .inv [] .some, at-loop .before .before .pre .0), filling-room [] _ _ _ _ _ _ _ _ (at-loop .loop .inv []) (search needs))
+    let x = c .before .before in
+    (omega (arith, at-loop x .loop .inv [] .some, start x .pre .0), filling-room [] _ _ _ _ _ _ _ _ (at-loop x .loop .inv []) (search needs))
 
 loop-again-2 : tie.Need-loop-again-2 Inv-loop μ-loop
 loop-again-2 c =
-    let at-index-of = c .before .before .before .before .before in
-    λ events. filling-event events _ _ _ _ _ _ _ _ (at-index-of .before .before .before .loop .inv events) (search needs) _ (at-index-of .index-of .ensures) (search needs)
+    let x = c .before .before .before .before .before in
+    λ events. filling-event events _ _ _ _ _ _ _ _ (at-loop x .loop .inv events) (search needs) _ (x .index-of .ensures) (search needs)
     _ (c .before .before .put-item2 .ensures)
 
 same-length : tie.Need-same-length Inv-loop μ-loop

@@ -13,8 +13,8 @@ returns-2 c = λ items is. put-no-room _ _ items is (search needs)
 
 fill-items-requires : tie.Need-fill-items-requires
 fill-items-requires c κs =
-    let pre = c .before .before .before .before .before .before .before .pre in
-    (omega (arith, pre .0, pre .1), search needs)
+    let start = c .before .before .before .before .before .before .before in
+    (omega (arith, start .pre .0, start .pre .1), search needs)
 
 returns-3 : tie.Need-returns-3
 returns-3 c =

@@ -12,42 +12,64 @@ use borrow.Author.Needs.{needs}
 use Rattle.verifier.proofs.printing.put_printed.Statement.{statement}
 use Rattle.verifier.proofs.printing.put_printed.Tie as tie
 
-one : (c : tie.After-written) →
-    let a = c .before .before .before .before .before .before .before .before .before .args in
-    let lines = itemsText (a .items .now) (min (a .n) 1152) in
-    Writing (auditedText (a .a) ++ lines) (a .out .now) (c .before .before .before .put-audited .last .1 .0) (c .written .result) (lines ++ [])
-one c =
-    let at-order-width = c .before .before .before .before .before .before in
-    let a = at-order-width .before .before .before .args in
-    let lines = itemsText (a .items .now) (min (a .n) 1152) in
-    writing-put-first _ _ _ _ _
-    (writing-as (ap (λ t. auditedText (a .a) ++ t) (sym (append-nil lines)))
-    (writing-start _ _ (omega (
-      arith,
-      length-append (auditedText (a .a)) lines,
-      at-order-width .order-width .ensures .0,
-      at-order-width .before .audited-width .ensures .0,
-    ))))
-    (c .before .before .before .put-audited .ensures) (c .written .ensures)
+-- the way back from where both widths are known
+module _ (o : tie.After-order-width) where
+  abbrev at-audited-width : tie.After-audited-width
+  at-audited-width = o .before
 
-two : (c : tie.After-written2) →
-    let b = c .before .before .before .before .before in
-    let a = b .before .before .before .before .before .before .before .before .before .args in
-    let ys = c .before .before .before .put-order .last .0 in
-    Writing (auditedText (a .a) ++ itemsText (a .items .now) (min (a .n) 1152)) (a .out .now)
-    (lent (b .before .before .before .put-audited .last .1 .0) (b .written .result) ys) (b .written .result + c .written2 .result) []
-two c =
-    writing-put _ _ _ _ _ (one (c .before .before .before .before .before)) (c .before .before .before .put-order .ensures)
-    (c .written2 .ensures)
+  abbrev start : tie.Start
+  start = at-audited-width .before .before
+
+-- from where the first piece was written
+module _ (c : tie.After-written) where
+  abbrev at-put-audited : tie.After-put-audited
+  at-put-audited = c .before .before .before
+
+  abbrev at-order-width : tie.After-order-width
+  at-order-width = at-put-audited .before .before .before
+
+  one :
+      let a = start at-order-width .args in
+      let lines = itemsText (a .items .now) (min (a .n) 1152) in
+      Writing (auditedText (a .a) ++ lines) (a .out .now) (at-put-audited .put-audited .last .1 .0) (c .written .result) (lines ++ [])
+  one =
+      let a = start at-order-width .args in
+      let lines = itemsText (a .items .now) (min (a .n) 1152) in
+      writing-put-first _ _ _ _ _
+      (writing-as (ap (λ t. auditedText (a .a) ++ t) (sym (append-nil lines)))
+      (writing-start _ _ (omega (
+        arith,
+        length-append (auditedText (a .a)) lines,
+        at-order-width .order-width .ensures .0,
+        at-audited-width at-order-width .audited-width .ensures .0,
+      ))))
+      (at-put-audited .put-audited .ensures) (c .written .ensures)
+
+-- and from where the second was
+module _ (c : tie.After-written2) where
+  abbrev at-put-order : tie.After-put-order
+  at-put-order = c .before .before .before
+
+  abbrev at-written : tie.After-written
+  at-written = at-put-order .before .before
+
+  two :
+      let b = at-written in
+      let a = start (at-order-width b) .args in
+      Writing (auditedText (a .a) ++ itemsText (a .items .now) (min (a .n) 1152)) (a .out .now)
+      (lent (at-put-audited b .put-audited .last .1 .0) (b .written .result) (at-put-order .put-order .last .0))
+      (b .written .result + c .written2 .result) []
+  two = writing-put _ _ _ _ _ (one at-written) (at-put-order .put-order .ensures) (c .written2 .ensures)
 
 returns : tie.Need-returns
 returns c =
-    let a = c .before .before .before .before .args in
-    let w = c .before .before .audited-width .ensures in (
+    let o = c .before in
+    let a = start o .args in
+    let w = at-audited-width o .audited-width .ensures in (
       put-short _ _ (omega (
         arith,
         length-append (auditedText (a .a)) (itemsText (a .items .now) (min (a .n) 1152)),
-        c .before .order-width .ensures .0,
+        o .order-width .ensures .0,
         w .0,
       )),
       omega (arith, w .0, w .1),
@@ -65,7 +87,7 @@ add-t8 c = omega (arith, writing-room (two c))
 returns-2 : tie.Need-returns-2
 returns-2 c =
     let d = writing-done (two c) (omega arith) in
-    let w = c .before .before .before .before .before .before .before .before .before .before .before .before .audited-width .ensures in
+    let w = at-audited-width (at-order-width (at-written c)) .audited-width .ensures in
     (put-fits _ _ _ _ (two c .room) (d .0) (d .1), omega (arith, w .0, w .1))
 
 pub put-printed-spec : {M : Type 1} → statement M

@@ -24,20 +24,31 @@ sub-put-item-line c = filling-room (c .before .loop .inv)
 part-put-item-line-start : tie.Need-part-put-item-line-start Inv-loop μ-loop
 part-put-item-line-start c = filling-room (c .before .loop .inv)
 
+-- the way back from where the room that was written is known
+module _ (w : tie.After-written Inv-loop μ-loop) where
+  abbrev at-put-item-line : tie.After-put-item-line Inv-loop μ-loop
+  at-put-item-line = w .before .before .before
+
+  abbrev at-item-at : tie.After-item-at Inv-loop μ-loop
+  at-item-at = at-put-item-line .before
+
+  abbrev at-loop : tie.At-loop Inv-loop μ-loop
+  at-loop = at-item-at .before .before .before
+
 add-at : tie.Need-add-at Inv-loop μ-loop
 add-at c =
     omega (
       arith,
-      filling-fits (c .before .before .before .before .before .before .before .loop .inv) (search needs) _ _ _ _
-          (ap itemText (c .before .before .before .before .item-at .ensures)) (c .before .before .before .put-item-line .ensures)
+      filling-fits (at-loop c .loop .inv) (search needs) _ _ _ _
+          (ap itemText (at-item-at c .item-at .ensures)) (at-put-item-line c .put-item-line .ensures)
           (c .written .ensures),
-      filling-length (c .before .before .before .before .before .before .before .loop .inv),
+      filling-length (at-loop c .loop .inv),
     )
 
 loop-again : tie.Need-loop-again Inv-loop μ-loop
 loop-again c =
-    filling-next (c .before .before .before .before .before .before .before .loop .inv) (search needs) _ _ _ _
-    (ap itemText (c .before .before .before .before .item-at .ensures)) (c .before .before .before .put-item-line .ensures)
+    filling-next (at-loop c .loop .inv) (search needs) _ _ _ _
+    (ap itemText (at-item-at c .item-at .ensures)) (at-put-item-line c .put-item-line .ensures)
     (c .written .ensures)
 
 same-length : tie.Need-same-length Inv-loop μ-loop

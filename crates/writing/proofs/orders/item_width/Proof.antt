@@ -15,9 +15,10 @@ returns c =
 
 returns-2 : tie.Need-returns-2
 returns-2 c =
+    let start = c .before .before .before .before in
     let w = c .numbers-width in
     let f = ap (λ f. length (numbersText (take (f .n) (f .v)))) (c .before .item-fields .ensures) in (
-      omega (arith, w .ensures .0, f, operation-length (c .before .before .before .before .args .x) (c .before .before .if1 .left)),
+      omega (arith, w .ensures .0, f, operation-length (start .args .x) (c .before .before .if1 .left)),
       omega (arith, w .ensures .1),
     )
 

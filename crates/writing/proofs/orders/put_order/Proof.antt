@@ -14,9 +14,10 @@ fill-requires c κs = (omega (arith, c .before .before .before .least .ensures),
 
 returns-2 : tie.Need-returns-2
 returns-2 c =
-    rw (← items-texts _ _ _ (c .before .before .before .before .before .before .least .ensures))
-    (put-fits _ _ _ _ (omega (arith, c .before .before .before .before .before .widths .ensures .0))
-    (c .before .before .fill .ensures .0) (c .before .before .fill .ensures .1))
+    let at-fill = c .before .before in
+    let at-widths = at-fill .before .before .before in
+    rw (← items-texts _ _ _ (at-widths .before .least .ensures))
+    (put-fits _ _ _ _ (omega (arith, at-widths .widths .ensures .0)) (at-fill .fill .ensures .0) (at-fill .fill .ensures .1))
 
 pub put-order-spec : {M : Type 1} → statement M
 put-order-spec =

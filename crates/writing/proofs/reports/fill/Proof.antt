@@ -23,20 +23,27 @@ sub-put-report-line c = filling-room (c .before .loop .inv)
 part-put-report-line-start : tie.Need-part-put-report-line-start Inv-loop μ-loop
 part-put-report-line-start c = filling-room (c .before .loop .inv)
 
+-- the way back from where the room that was written is known
+module _ (w : tie.After-written Inv-loop μ-loop) where
+  abbrev at-put-report-line : tie.After-put-report-line Inv-loop μ-loop
+  at-put-report-line = w .before .before .before
+
+  abbrev at-loop : tie.At-loop Inv-loop μ-loop
+  at-loop = at-put-report-line .before .before .before
+
 add-at : tie.Need-add-at Inv-loop μ-loop
 add-at c =
     omega (
       arith,
-      filling-fits (c .before .before .before .before .before .before .loop .inv) (search needs) _ _ _ _ refl
-          (c .before .before .before .put-report-line .ensures) (c .written .ensures),
-      filling-length
-          (c .before .before .before .before .before .before .loop .inv),
+      filling-fits (at-loop c .loop .inv) (search needs) _ _ _ _ refl
+          (at-put-report-line c .put-report-line .ensures) (c .written .ensures),
+      filling-length (at-loop c .loop .inv),
     )
 
 loop-again : tie.Need-loop-again Inv-loop μ-loop
 loop-again c =
-    filling-next (c .before .before .before .before .before .before .loop .inv) (search needs) _ _ _ _ refl
-    (c .before .before .before .put-report-line .ensures) (c .written .ensures)
+    filling-next (at-loop c .loop .inv) (search needs) _ _ _ _ refl
+    (at-put-report-line c .put-report-line .ensures) (c .written .ensures)
 
 same-length : tie.Need-same-length Inv-loop μ-loop
 same-length c = filling-length (c .before .loop .inv)

@@ -7,18 +7,24 @@ use Rattle.writing.proofs.reports.put_report_line.Tie as tie
 
 returns : tie.Need-returns
 returns c =
-    let a = c .before .before .before .before .before .before .before .before .before .args in
+    let at-of-fields = c .before .before .before in
+    let at-of-at = at-of-fields .before in
+    let start = at-of-at .before .before .before .before .before in
+    let a = start .args in
     rw
     (← of-written (now (a .ofs)) (a .m) (now (a .logs)) (a .i) (search needs) _ _
-    (c .before .before .before .before .of-at .ensures) (c .before .before .before .of-fields .ensures))
+    (at-of-at .of-at .ensures) (at-of-fields .of-fields .ensures))
     (c .before .before .put-line .ensures)
 
 returns-2 : tie.Need-returns-2
 returns-2 c =
-    let a = c .before .before .before .before .before .before .before .before .before .args in
+    let at-entry-fields = c .before .before .before in
+    let at-entry-at = at-entry-fields .before in
+    let start = at-entry-at .before .before .before .before .before in
+    let a = start .args in
     rw
     (← log-written (now (a .ofs)) (a .m) (now (a .logs)) (a .i) (search needs) _ _
-    (c .before .before .before .before .entry-at .ensures) (c .before .before .before .entry-fields .ensures))
+    (at-entry-at .entry-at .ensures) (at-entry-fields .entry-fields .ensures))
     (c .before .before .put-line2 .ensures)
 
 pub put-report-line-spec : {M : Type 1} → statement M

@@ -10,11 +10,12 @@ add-result c = omega (arith, c .before .before .numbers-width .ensures .1)
 
 returns : tie.Need-returns
 returns c =
-    let e = c .before .before .before .before .args .e in
-    let k = c .before .before .numbers-width in (
-      event-width e _ (request-text e _ _ _ _ (c .enum-told .given .1)) _ (c .before .before .before .event-fields .ensures) _
-          (k .ensures .0),
-      omega (arith, k .ensures .1),
+    let at-numbers-width = c .before .before in
+    let at-event-fields = at-numbers-width .before in
+    let e = at-event-fields .before .args .e in (
+      event-width e _ (request-text e _ _ _ _ (c .enum-told .given .1)) _ (at-event-fields .event-fields .ensures) _
+          (at-numbers-width .numbers-width .ensures .0),
+      omega (arith, at-numbers-width .numbers-width .ensures .1),
     )
 
 add-result-2 : tie.Need-add-result-2
@@ -22,11 +23,12 @@ add-result-2 c = omega (arith, c .before .before .numbers-width .ensures .1)
 
 returns-2 : tie.Need-returns-2
 returns-2 c =
-    let e = c .before .before .before .before .args .e in
-    let k = c .before .before .numbers-width in (
-      event-width e _ (response-text e _ _ _ (c .enum-told2 .given .1)) _ (c .before .before .before .event-fields .ensures) _
-          (k .ensures .0),
-      omega (arith, k .ensures .1),
+    let at-numbers-width = c .before .before in
+    let at-event-fields = at-numbers-width .before in
+    let e = at-event-fields .before .args .e in (
+      event-width e _ (response-text e _ _ _ (c .enum-told2 .given .1)) _ (at-event-fields .event-fields .ensures) _
+          (at-numbers-width .numbers-width .ensures .0),
+      omega (arith, at-numbers-width .numbers-width .ensures .1),
     )
 
 pub event-width-spec : {M : Type 1} → statement M

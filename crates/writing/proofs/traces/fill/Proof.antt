@@ -24,20 +24,31 @@ sub-put-event-line c = filling-room (c .before .loop .inv)
 part-put-event-line-start : tie.Need-part-put-event-line-start Inv-loop μ-loop
 part-put-event-line-start c = filling-room (c .before .loop .inv)
 
+-- the way back from where the room that was written is known
+module _ (w : tie.After-written Inv-loop μ-loop) where
+  abbrev at-put-event-line : tie.After-put-event-line Inv-loop μ-loop
+  at-put-event-line = w .before .before .before
+
+  abbrev at-event-at : tie.After-event-at Inv-loop μ-loop
+  at-event-at = at-put-event-line .before
+
+  abbrev at-loop : tie.At-loop Inv-loop μ-loop
+  at-loop = at-event-at .before .before .before
+
 add-at : tie.Need-add-at Inv-loop μ-loop
 add-at c =
     omega (
       arith,
-      filling-fits (c .before .before .before .before .before .before .before .loop .inv) (search needs) _ _ _ _
-          (ap eventText (c .before .before .before .before .event-at .ensures)) (c .before .before .before .put-event-line .ensures)
+      filling-fits (at-loop c .loop .inv) (search needs) _ _ _ _
+          (ap eventText (at-event-at c .event-at .ensures)) (at-put-event-line c .put-event-line .ensures)
           (c .written .ensures),
-      filling-length (c .before .before .before .before .before .before .before .loop .inv),
+      filling-length (at-loop c .loop .inv),
     )
 
 loop-again : tie.Need-loop-again Inv-loop μ-loop
 loop-again c =
-    filling-next (c .before .before .before .before .before .before .before .loop .inv) (search needs) _ _ _ _
-    (ap eventText (c .before .before .before .before .event-at .ensures)) (c .before .before .before .put-event-line .ensures)
+    filling-next (at-loop c .loop .inv) (search needs) _ _ _ _
+    (ap eventText (at-event-at c .event-at .ensures)) (at-put-event-line c .put-event-line .ensures)
     (c .written .ensures)
 
 same-length : tie.Need-same-length Inv-loop μ-loop

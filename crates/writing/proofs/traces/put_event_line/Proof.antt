@@ -6,15 +6,19 @@ use Rattle.writing.proofs.traces.put_event_line.Tie as tie
 
 returns : tie.Need-returns
 returns c =
-    let e = c .before .before .before .before .before .before .before .before .before .args .e in
-    event-put e _ (request-text e _ _ _ _ (c .before .before .before .before .before .enum-told .given .1)) _
-    (c .before .before .before .before .before .before .before .event-fields .ensures) _ _ _ (c .before .before .put-line .ensures)
+    let at-enum-told = c .before .before .before .before .before in
+    let at-event-fields = at-enum-told .before .before in
+    let e = at-event-fields .before .before .args .e in
+    event-put e _ (request-text e _ _ _ _ (at-enum-told .enum-told .given .1)) _
+    (at-event-fields .event-fields .ensures) _ _ _ (c .before .before .put-line .ensures)
 
 returns-2 : tie.Need-returns-2
 returns-2 c =
-    let e = c .before .before .before .before .before .before .before .before .before .args .e in
-    event-put e _ (response-text e _ _ _ (c .before .before .before .before .before .enum-told2 .given .1)) _
-    (c .before .before .before .before .before .before .before .event-fields .ensures) _ _ _ (c .before .before .put-line2 .ensures)
+    let at-enum-told2 = c .before .before .before .before .before in
+    let at-event-fields = at-enum-told2 .before .before in
+    let e = at-event-fields .before .before .args .e in
+    event-put e _ (response-text e _ _ _ (at-enum-told2 .enum-told2 .given .1)) _
+    (at-event-fields .event-fields .ensures) _ _ _ (c .before .before .put-line2 .ensures)
 
 pub put-event-line-spec : {M : Type 1} → statement M
 put-event-line-spec =
