@@ -14,7 +14,7 @@ use Rattle.text.specs.Schedule.{readSchedule}
 use Rattle.text.specs.Trace.{isRequest}
 use Rattle.model.specs.Batch.{Batch}
 use Rattle.model.specs.Checks.{faultOr, badLine, contents}
-use Rattle.model.specs.Host.{Result, fault, made, on, andThen}
+use Rattle.model.specs.Host.{Result, fault, made, andThen}
 use Rattle.model.proofs.Main.{host-accepted}
 use Rattle.model.proofs.Scans.{passes, read-fine}
 use Rattle.machine.specs.Instance.{machineOf}

@@ -9,7 +9,7 @@ use borrow.Author.Tests.{lt-ltb, le-ltb}
 use Rattle.basics.specs.Maps.{upd}
 use Rattle.lines.specs.Place.{cells}
 use Rattle.lines.proofs.FieldLaws.{cells-all}
-use Rattle.text.specs.Held.{ofAt, withEntry, moveAt}
+use Rattle.text.specs.Held.{ofAt, moveAt}
 use Rattle.text.specs.Programs.{known}
 use Rattle.text.specs.Rows.{row}
 use Rattle.text.specs.declared.programs.Program.{Program}
@@ -22,7 +22,7 @@ use Rattle.model.specs.PlainRun.{opened, answerNow}
 use Rattle.model.specs.PlainRun as plain
 use Rattle.model.proofs.Faithful.{faithful-operate}
 use Rattle.machine.specs.Held.{Objects, ObjectsHeld, Performs, PerformedIs}
-use Rattle.machine.specs.Instance.{nextOf, intoOf, codeAt, gone}
+use Rattle.machine.specs.Instance.{intoOf, codeAt}
 use Rattle.machine.specs.Objects.{Content}
 use Rattle.machine.specs.Processes.{limit, resumed}
 use Rattle.machine.specs.declared.processes.Next.the-variants.{Operation}
@@ -36,7 +36,7 @@ use Rattle.host.specs.Runs.{going, seenRow, M, seen, LinesIs}
 use Rattle.host.specs.Tables.{Table, codeIn}
 use Rattle.host.specs.declared.requests.Standing.the-variants.{Open}
 use Rattle.host.proofs.Joining.{line-joins}
-use Rattle.host.proofs.Running.{whole, Running, HostHeld, ObjectsIs}
+use Rattle.host.proofs.Running.{whole, Running, HostHeld}
 use Rattle.host.proofs.Slots.{state-put, both-changed, goes-on}
 use Rattle.host.proofs.Turning as turn
 

@@ -19,7 +19,7 @@ use Rattle.model.proofs.Faithful.{faithful-reply}
 use Rattle.machine.specs.Instance.{codeAt}
 use Rattle.machine.specs.Objects.{Content}
 use Rattle.host.specs.Memory.{Memory}
-use Rattle.host.specs.Moves.{withState, replied}
+use Rattle.host.specs.Moves.{replied}
 use Rattle.host.specs.Requests.{stateNumbers, progressIn, standingIn}
 use Rattle.host.specs.Runs.{seenRow, M}
 use Rattle.host.specs.Tables.{Table, codeIn}

@@ -15,7 +15,7 @@ use Rattle.machine.specs.Objects.{Content}
 use Rattle.machine.specs.declared.processes.Next.the-variants.{Operation, Reply, Cut}
 use Rattle.machine.specs.declared.processes.Next.{Next}
 use Rattle.host.specs.Memory.{Memory}
-use Rattle.host.specs.Moves.{ReplyIs, NextIs, TurnIs}
+use Rattle.host.specs.Moves.{NextIs, TurnIs}
 use Rattle.host.specs.Requests.{progressIn, standingIn}
 use Rattle.host.specs.Tables.{Table, codeIn}
 use Rattle.host.specs.declared.requests.Standing.the-variants.{Open}

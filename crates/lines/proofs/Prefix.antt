@@ -41,18 +41,6 @@ prefix-head x b w t h = go (eqb b x) refl h
     go true p k = (eqb-true b x p, k)
     go false p k = absurd (false≢true k)
 
--- of two words that begin with different bytes one at most begins a line
-pub prefix-apart : (x y : ℕ) (w u s : List ℕ) → (x ≡ y → ⊥) → prefix (x ∷ w) s ≡ true → prefix (y ∷ u) s ≡ false
-unfolding prefix
-prefix-apart x y w u [] n h = refl
-prefix-apart x y w u (b ∷ s) n h = rw (ne-eqb b y (λ e. n (sym (prefix-head x b w s h .0) ∙ e))) refl
-
-pub prefix-length : (w s : List ℕ) → prefix w s ≡ true → length w ≤ length s
-unfolding prefix
-prefix-length [] s h = omega arith
-prefix-length (x ∷ w) [] h = absurd (false≢true h)
-prefix-length (x ∷ w) (b ∷ s) h = omega (arith, prefix-length w s (prefix-head x b w s h .1))
-
 pub prefix-self : (w s : List ℕ) → prefix w (w ++ s) ≡ true
 unfolding prefix
 prefix-self [] s = refl

@@ -79,15 +79,6 @@ field-out : (s : List ℕ) (i : ℕ) → length s ≤ i → field (drop i s) ≡
 unfolding until
 field-out s i h = rw (drop-of-length-le s h) refl
 
-field-length : (t : List ℕ) → length (field t) ≤ length t
-unfolding until
-field-length [] = omega arith
-field-length (b ∷ t) = go (endsOf b) refl (field-length t)
-  where
-    go : (x : Bool) → endsOf b ≡ x → length (field t) ≤ length t → length (field (b ∷ t)) ≤ suc (length t)
-    go true p ih = rw (field-end b t p) (omega arith)
-    go false p ih = rw (field-go b t p) (omega (arith, ih))
-
 module _ (s : List ℕ) (i : ℕ) (h : i < length s) where
   here : drop i s ≡ getD s i 0 ∷ drop (i + 1) s
   here = rw add-one (drop-cons s i 0 h)

@@ -1,10 +1,10 @@
 -- Laws of a log: what an operation changes, one line more, and the answer of each line.
 use Prim.Native.Nat.{ℕ, zero, suc, _+_, _<_}
-use mathlib.Core.Path.{_≡_, refl, ap, fun-ext, _∙_}
+use mathlib.Core.Path.{_≡_, refl, ap, fun-ext}
 use mathlib.Core.List.{List, [], _∷_, _++_}
 use native.Mathlib.Omega.{arith}
 use lib.Dec.{eqb}
-use lib.ListN.{getD, set, length, length-append}
+use lib.ListN.{getD, set, length}
 use lib.Seq.{sets}
 use Rattle.basics.specs.Firsts.{firsts}
 use Rattle.basics.specs.Maps.{upd}

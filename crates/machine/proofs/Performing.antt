@@ -1,15 +1,15 @@
 -- Laws of the objects in arrays: what an operation does to the arrays, `apply` does to the objects. A new kind is a clause of `apply` and one
 -- law here, beside `store-put` and `store-look`.
-use Prim.Native.Nat.{ℕ, _+_, _%_, _≤_, _<_, min}
+use Prim.Native.Nat.{ℕ, _+_, _%_, _≤_, _<_}
 use mathlib.Core.Path.{_≡_, refl, sym, ap, _∙_, subst}
-use mathlib.Core.Bool.{Bool, true, false, cond}
+use mathlib.Core.Bool.{true, false, cond}
 use mathlib.Core.List.{List, [], _∷_, _++_}
 use native.Mathlib.Omega.{arith}
 use native.Mathlib.Numerals.{add-one}
 use lib.Dec.{eqb, ltb}
 use lib.ListN.{getD, set, length, replicate, length-set, length-append, length-replicate, getD-replicate}
 use lib.Seq.{sets, getD-set-same, getD-set-other}
-use borrow.Author.Tests.{lt-ltb, le-ltb, ltb-true, ltb-false, eqb-true, eqb-false, ne-eqb}
+use borrow.Author.Tests.{lt-ltb, le-ltb, eqb-true, eqb-false, ne-eqb}
 use Rattle.basics.specs.Firsts.{firsts}
 use Rattle.basics.proofs.Firsts.{firsts-length}
 use Rattle.basics.proofs.Tests.{byBool}

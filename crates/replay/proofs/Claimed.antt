@@ -1,6 +1,6 @@
 -- The line that claims an operation, at the objects as the lines above it leave them, and its answer.
 use mathlib.Core.Bool.{true, false, cond}
-use mathlib.Core.List.{List, [], _∷_}
+use mathlib.Core.List.{List, _∷_}
 use mathlib.Core.Path.{_≡_, refl, ap, subst, _∙_}
 use Prim.Native.Nat.{ℕ, zero, suc, _+_, _≤_, _<_, min}
 use lib.ListN.{getD, length, drop, List·getD-append}

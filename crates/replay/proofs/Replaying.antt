@@ -11,13 +11,11 @@ use native.Mathlib.Omega.{arith}
 use Rattle.basics.specs.Firsts.{firsts}
 use Rattle.basics.proofs.Firsts.{firsts-more}
 use Rattle.basics.proofs.Tests.{byEq}
-use Rattle.text.specs.Held.{entryAt}
 use Rattle.text.specs.Programs.{noInstr}
 use Rattle.text.specs.declared.programs.Instr.{Instr}
-use Rattle.text.specs.declared.programs.Program.{Program}
 use Rattle.text.specs.declared.report.Op.{Op}
 use Rattle.model.specs.Machine.{Machine, Next, op, stop}
-use Rattle.model.specs.Replay.{said, Outcome, differs, ended, Answer, wrong, right, Claim, claim, compare, replay}
+use Rattle.model.specs.Replay.{said, Outcome, differs, ended, Answer, wrong, right, Claim, compare, replay}
 use Rattle.machine.specs.declared.instructions.Act.{Act}
 use Rattle.machine.specs.declared.instructions.Act.the-variants.{Goes, Asks, Replies}
 use Rattle.machine.specs.declared.processes.Next.the-variants.{Operation, Reply, Cut}

@@ -1,10 +1,10 @@
 -- Laws of records in an array of numbers.
-use Prim.Native.Nat.{ℕ, suc, _+_, _*_, _%_, _<_, _≤_}
+use Prim.Native.Nat.{ℕ, suc, _+_, _*_, _<_, _≤_}
 use mathlib.Core.Bool.{Bool, true, false}
 use mathlib.Core.List.{List, [], _∷_, _++_, append-assoc}
 use mathlib.Core.Path.{_≡_, refl, sym, _∙_, ap, subst}
 use native.Mathlib.Omega.{arith}
-use native.Mathlib.Nat.{mod-eq-of-lt, mul-le-mul-right, suc-mul}
+use native.Mathlib.Nat.{mul-le-mul-right, suc-mul}
 use borrow.Author.Tests.{eqb-true, eqb-false, ltb-true, ltb-false}
 use lib.Dec.{eqb, ltb}
 use lib.ListN.{length, getD, take, drop, set, length-drop, take-append-drop}
@@ -23,8 +23,6 @@ use lib.Seq.{
   getD-set-same,
   getD-set-other,
 }
-use Rattle.basics.specs.Firsts.{firsts}
-use Rattle.basics.proofs.Firsts.{firsts-more}
 use Rattle.text.specs.Rows.{row, withRow}
 
 -- number j of row i stands at i times w plus j
@@ -139,13 +137,3 @@ module _ (w : ℕ) (a : List ℕ) (n : ℕ) (vs : List ℕ) (l : length vs ≡ w
       by : (b : Bool) → ltb i n ≡ b → row w (withRow w a n vs) i ≡ row w a i
       by true e = row-before i (ltb-true i n e)
       by false e = row-behind i (let g = ltb-false i n e in omega (arith, g, h))
-
-  -- read back as records, in a table of N places
-  pub rows-put : {A : Type 0} (F : List ℕ → A) (N : ℕ) → n < N →
-      firsts (λ i. F (row w (withRow w a n vs) (i % N))) (n + 1) ≡ firsts (λ i. F (row w a (i % N))) n ++ F vs ∷ []
-  rows-put F N h =
-      firsts-more (λ i. F (row w (withRow w a n vs) (i % N))) (λ i. F (row w a (i % N))) n (F vs)
-      (λ (i : ℕ). λ (k : i < n).
-      let e : i % N ≡ i = mod-eq-of-lt (omega (arith, k, h)) in
-      ap F (ap (row w (withRow w a n vs)) e ∙ row-before i k ∙ ap (row w a) (sym e)))
-      (ap F (ap (row w (withRow w a n vs)) (mod-eq-of-lt h) ∙ row-put))

@@ -17,7 +17,7 @@ use Rattle.text.specs.Held.{eventAt, entryAt}
 use Rattle.text.specs.declared.report.Entry.{Entry}
 use Rattle.model.specs.Batch.{Node, ev, ln}
 use Rattle.model.specs.ByRule.{itemOf}
-use Rattle.model.specs.PlainRun.{Item, event, operation}
+use Rattle.model.specs.PlainRun.{Item}
 use Rattle.replay.specs.Arrays.{Arrays, within, nodeAt}
 use Rattle.replay.specs.Judges.{Orders}
 use Rattle.verifier.specs.Faults.{auditOf}

@@ -1,8 +1,7 @@
 -- `answers` meets its contract. The invariant: the arrays hold the objects above line i, and the answers so far stand in front.
 use Prim.Native.Nat.{ℕ, _+_, _-_, _≤_, min}
-use mathlib.Core.Path.{_≡_, ap, _∙_, subst}
+use mathlib.Core.Path.{_≡_}
 use native.Mathlib.Omega.{arith}
-use lib.ListN.{length}
 use Rattle.basics.specs.Firsts.{firsts}
 use Rattle.basics.proofs.Firsts.{firsts-length}
 use Rattle.text.specs.Held.{entryAt}
