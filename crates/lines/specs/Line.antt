@@ -30,7 +30,7 @@ inFront v none = none
 unfoldable pub fieldOf : (most : ℕ) → List ℕ → Numeral
 fieldOf most p = elim (numberOf p) [ Value v ↦ elim (leb v most) [ true ↦ Value v | false ↦ Not ] | Not ↦ Not ]
 
--- each part is a field, and there are as many as they should be
+-- each part is a field, and there are as many parts as fields
 unfoldable pub fieldsOf : (largest : List ℕ) → List (List ℕ) → Option (List ℕ)
 fieldsOf [] [] = some []
 fieldsOf [] (p ∷ ps) = none
