@@ -76,8 +76,8 @@ refused:
                    reads key K of store O and gets V
 Standard error: one sentence, that of 'teaselshears audit'.
 
-The order is proved: the first word of each line. The words behind it are not proved, nor are the line numbers and the
-values that are read: this program works them out by following the order, with 0 in every register and store at first.
+The order is proved: the first word of each line. The words behind it and the line numbers are not: this program looks
+for the line of each item. Of an accepted batch, what a log line says was written or read is proved to be so.
 
       --missing-as-empty  a missing file is an empty text; without it such a batch is not run. A folder with none
                           of the three files is never run
@@ -133,7 +133,7 @@ again, remove batches/NAME.
 
 What an earlier version kept stays as it was. It has no blocks and rest where that version printed none: they are empty
 in the table and null in JSON; and no order where that version had none either. To have them, remove batches/NAME and
-run again.
+run again. A batch from before values read were shown in the log, with 0 in their place, is then refused as 10.
 
 Standard error: on a terminal a line of progress, otherwise a line for each batch that is audited; a line for each
 that is refused, changed or failed, in a later run too; and the counts.

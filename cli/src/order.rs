@@ -1,5 +1,5 @@
 //! `teaselshears order`: how an accepted batch could have gone, told to a person. The order is the proved library's; the words are
-//! found here by following it.
+//! those of each item's line.
 
 use crate::answer::Item;
 use crate::arguments::{self, HELP, MISSING_AS_EMPTY};
@@ -37,14 +37,13 @@ pub fn run(words: impl Iterator<Item = OsString>) -> Result<Status, NotRun> {
 fn told(order: &[Item], texts: &Texts) -> Option<String> {
     let [trace, report] = [Text::Trace, Text::Report].map(|text| Lines::of(text, texts));
     let mut log = log_of(texts);
-    let mut objects = Objects::default();
     let mut told = String::new();
     for item in order {
         let words = match item {
             Item::Event(line) => trace.shown(*line)?,
             Item::Operation { rid, num } => {
                 let (line, logged) = log.remove(&(*rid, *num))?;
-                let done = objects.follow(&logged)?;
+                let done = logged.in_words()?;
                 format!("{}: request {rid} {done}", report.shown(line)?)
             }
         };
@@ -85,6 +84,25 @@ struct Logged {
     value: u64,
 }
 
+impl Logged {
+    /// The operation in words; the log line of a read shows the value that it got.
+    fn in_words(&self) -> Option<String> {
+        let Logged {
+            object,
+            kind,
+            key,
+            value,
+        } = self;
+        Some(match kind {
+            6 => format!("reads register {object} and gets {value}"),
+            7 => format!("writes {value} to register {object}"),
+            8 => format!("reads key {key} of store {object} and gets {value}"),
+            9 => format!("puts {value} at key {key} of store {object}"),
+            _ => return None,
+        })
+    }
+}
+
 /// The log lines with their numbers in the report, each by the rid and the number of the operation that it claims.
 fn log_of(texts: &Texts) -> BTreeMap<(u64, u64), (u64, Logged)> {
     let records = formats::records(Text::Report, texts.bytes(Text::Report));
@@ -99,42 +117,6 @@ fn log_of(texts: &Texts) -> BTreeMap<(u64, u64), (u64, Logged)> {
         Some(((rid, num), (record.line, logged)))
     });
     log.collect()
-}
-
-/// What the objects hold while an order is followed, by object and key; a register has key 0. What was never written is 0.
-#[derive(Default)]
-struct Objects(BTreeMap<(u64, u64), u64>);
-
-impl Objects {
-    /// Does an operation, and says it in words: of a read with the value that it gets.
-    fn follow(&mut self, logged: &Logged) -> Option<String> {
-        let Logged {
-            object,
-            kind,
-            key,
-            value,
-        } = *logged;
-        Some(match kind {
-            6 => format!("reads register {object} and gets {}", self.get(object, 0)),
-            7 => {
-                self.0.insert((object, 0), value);
-                format!("writes {value} to register {object}")
-            }
-            8 => {
-                let found = self.get(object, key);
-                format!("reads key {key} of store {object} and gets {found}")
-            }
-            9 => {
-                self.0.insert((object, key), value);
-                format!("puts {value} at key {key} of store {object}")
-            }
-            _ => return None,
-        })
-    }
-
-    fn get(&self, object: u64, key: u64) -> u64 {
-        self.0.get(&(object, key)).copied().unwrap_or(0)
-    }
 }
 
 #[cfg(test)]
@@ -163,7 +145,7 @@ mod tests {
     #[test]
     fn case_c() {
         let trace = "request=1,0,0,0\nrequest=2,1,0,0\nresponse=1,0,1\nresponse=2,0,1\n";
-        let report = "of=1,0,2\nof=2,1,2\nlog=0,1,1,7,0,1\nlog=0,2,2,6,0,0\nlog=1,2,1,7,0,1\nlog=1,1,2,6,0,0\n";
+        let report = "of=1,0,2\nof=2,1,2\nlog=0,1,1,7,0,1\nlog=0,2,2,6,0,1\nlog=1,2,1,7,0,1\nlog=1,1,2,6,0,1\n";
         let event = Item::Event;
         let order = [
             event(1),
@@ -180,8 +162,8 @@ event=1       trace.txt, line 1: \"request=1,0,0,0\"
 op=1,1        report.txt, line 3: \"log=0,1,1,7,0,1\": request 1 writes 1 to register 0
 event=2       trace.txt, line 2: \"request=2,1,0,0\"
 op=2,1        report.txt, line 5: \"log=1,2,1,7,0,1\": request 2 writes 1 to register 1
-op=2,2        report.txt, line 4: \"log=0,2,2,6,0,0\": request 2 reads register 0 and gets 1
-op=1,2        report.txt, line 6: \"log=1,1,2,6,0,0\": request 1 reads register 1 and gets 1
+op=2,2        report.txt, line 4: \"log=0,2,2,6,0,1\": request 2 reads register 0 and gets 1
+op=1,2        report.txt, line 6: \"log=1,1,2,6,0,1\": request 1 reads register 1 and gets 1
 event=3       trace.txt, line 3: \"response=1,0,1\"
 event=4       trace.txt, line 4: \"response=2,0,1\"
 ";
@@ -189,57 +171,24 @@ event=4       trace.txt, line 4: \"response=2,0,1\"
     }
 
     #[test]
-    fn a_register_holds_what_was_written_last() {
+    fn each_kind_has_its_words() {
         let log = [
-            "log=7,1,1,6,0,0\n",
-            "log=7,1,2,7,0,5\n",
-            "log=7,1,3,7,0,18446744073709551615\n",
-            "log=7,1,4,6,0,0\n",
-            "log=6,1,5,6,0,0\n",
+            "log=7,1,1,7,0,18446744073709551615\n",
+            "log=7,1,2,6,0,18446744073709551615\n",
+            "log=6,1,3,6,0,0\n",
+            "log=8,1,4,9,3,10\n",
+            "log=8,1,5,8,3,10\n",
+            "log=9,1,6,8,3,0\n",
         ];
         let wanted = [
-            "reads register 7 and gets 0",
-            "writes 5 to register 7",
             "writes 18446744073709551615 to register 7",
             "reads register 7 and gets 18446744073709551615",
             "reads register 6 and gets 0",
-        ];
-        assert_eq!(words(&log), wanted);
-    }
-
-    #[test]
-    fn a_store_holds_a_value_for_each_key() {
-        let log = [
-            "log=8,1,1,8,3,0\n",
-            "log=8,1,2,9,3,10\n",
-            "log=8,1,3,9,4,20\n",
-            "log=8,1,4,8,3,0\n",
-            "log=8,1,5,8,4,0\n",
-            "log=9,1,6,8,3,0\n",
-            "log=8,1,7,9,3,0\n",
-            "log=8,1,8,8,3,0\n",
-        ];
-        let wanted = [
-            "reads key 3 of store 8 and gets 0",
             "puts 10 at key 3 of store 8",
-            "puts 20 at key 4 of store 8",
             "reads key 3 of store 8 and gets 10",
-            "reads key 4 of store 8 and gets 20",
             "reads key 3 of store 9 and gets 0",
-            "puts 0 at key 3 of store 8",
-            "reads key 3 of store 8 and gets 0",
         ];
         assert_eq!(words(&log), wanted);
-    }
-
-    #[test]
-    fn what_is_read_follows_the_order_and_not_the_report() {
-        let log = texts("", "log=0,1,1,7,0,1\nlog=0,2,1,6,0,0\n");
-        let last = |order: &[Item]| told(order, &log).unwrap().lines().last().map(str::to_owned);
-        let read = last(&[op(1, 1), op(2, 1)]).unwrap();
-        assert!(read.ends_with("request 2 reads register 0 and gets 1"));
-        let first = told(&[op(2, 1), op(1, 1)], &log).unwrap();
-        assert!(first.contains("request 2 reads register 0 and gets 0\n"));
     }
 
     #[test]

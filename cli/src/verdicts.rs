@@ -183,7 +183,8 @@ before its first request and ended after its last response.",
     Verdict {
         rule: "operation or count differs",
         text: Some(Text::Report),
-        example: "case C with 2 as the first log value: line 1, the `of` line of the request that differs",
+        example: "case C with 2 as the first log value: line 1, the `of` line of the request that differs; a log line that does \
+not show the value read (examples/refused-10-read-not-shown) is a 10 too",
         next: HOST_AT_FAULT,
     },
     Verdict {

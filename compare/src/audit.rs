@@ -340,11 +340,13 @@ fn replay(
     loop {
         match running.go_on() {
             Pause::Operation(operation) => {
-                let index = *claims.get(&(request.rid, running.operations()))?;
-                if Operation::claimed_by(&batch.report.log[index]) != operation {
+                let (rid, num) = (request.rid, running.operations());
+                let index = *claims.get(&(rid, num))?;
+                let answer = answers[index];
+                if batch.report.log[index] != operation.log_line(rid, num, answer) {
                     return None;
                 }
-                running.answer(answers[index]);
+                running.answer(answer);
             }
             Pause::End { status, value } => {
                 let response = Response {

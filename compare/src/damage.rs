@@ -4,6 +4,7 @@
 //! keeps a whole batch readable (neighbours in a log exchanged, requests put into one group), so that every
 //! verdict is reached.
 
+use crate::machine::{Objects, Operation};
 use crate::random::{interleave, Random};
 use crate::texts::{
     read_report, read_schedule, read_trace, write_report, write_schedule, write_trace, BatchTexts,
@@ -57,7 +58,8 @@ pub fn damage_batch(random: &mut Random, batch: &mut BatchTexts) {
             8..=17 => damage_text(random, &mut batch.trace),
             18..=34 => exchange_neighbours(random, &mut batch.trace),
             35..=39 => change_response(random, &mut batch.trace),
-            40..=51 => damage_text(random, &mut batch.report),
+            40..=44 => misstate_read(random, batch),
+            45..=53 => damage_text(random, &mut batch.report),
             _ => damage_report(random, &mut batch.report),
         }
     }
@@ -136,19 +138,24 @@ fn fill_arrivals(random: &mut Random, entries: &mut Vec<Entry>) {
     }
 }
 
-/// Damages a report so that it often stays readable; another report where it cannot be read.
+/// Damages a report so that it often stays readable; another report where it cannot be read. Half of the time its
+/// reads then show what its logs give, so that the damage is seen behind row 10 too.
 fn damage_report(random: &mut Random, text: &mut Vec<u8>) {
     let Ok(mut report) = read_report(text) else {
         return damage_text(random, text);
     };
-    match random.below(18) {
+    match random.below(19) {
         0..=3 => exchange_in_log(random, &mut report),
         4 => report = interleave(random, &report),
         5..=6 => join_groups(random, &mut report),
         7 => change_count(random, &mut report),
         8 => renumber(random, &mut report),
         9..=13 => misstate_write(random, &mut report),
+        14 => hide_reads(&mut report),
         _ => change_log_line(random, &mut report),
+    }
+    if random.percent(50) {
+        show_reads(&mut report);
     }
     *text = write_report(&report);
 }
@@ -268,13 +275,7 @@ fn change_response(random: &mut Random, text: &mut Vec<u8>) {
     let Ok(mut trace) = read_trace(text) else {
         return damage_text(random, text);
     };
-    let mut responses: Vec<&mut Response> = trace
-        .iter_mut()
-        .filter_map(|event| match event {
-            Event::Response(response) => Some(response),
-            Event::Request(_) => None,
-        })
-        .collect();
+    let mut responses: Vec<&mut Response> = trace.iter_mut().filter_map(response).collect();
     if responses.is_empty() {
         return;
     }
@@ -285,6 +286,13 @@ fn change_response(random: &mut Random, text: &mut Vec<u8>) {
         responses[place].value = random.below(4) as u64;
     }
     *text = write_trace(&trace);
+}
+
+fn response(event: &mut Event) -> Option<&mut Response> {
+    match event {
+        Event::Response(response) => Some(response),
+        Event::Request(_) => None,
+    }
 }
 
 /// Exchanges two neighbours in one object's log, wherever their lines stand.
@@ -333,6 +341,48 @@ fn change_count(random: &mut Random, report: &mut Report) {
             report.log.push(line);
         }
     }
+}
+
+/// Gives each read of a report the value that the lines above it in its object's log leave.
+fn show_reads(report: &mut Report) {
+    let mut objects = Objects::default();
+    for line in &mut report.log {
+        let answer = objects.perform(Operation::claimed_by(line));
+        if is_read(line) {
+            line.value = answer;
+        }
+    }
+}
+
+fn is_read(line: &LogLine) -> bool {
+    matches!(line.kind, 6 | 8)
+}
+
+/// Shows 0 for every read, as reports did before reads were shown.
+fn hide_reads(report: &mut Report) {
+    let reads = report.log.iter_mut().filter(|line| is_read(line));
+    reads.for_each(|line| line.value = 0);
+}
+
+/// Shows another value for a read. Half of the time its request answers with that value.
+fn misstate_read(random: &mut Random, batch: &mut BatchTexts) {
+    let (Ok(mut trace), Ok(mut report)) = (read_trace(&batch.trace), read_report(&batch.report))
+    else {
+        return damage_text(random, &mut batch.report);
+    };
+    let mut reads: Vec<&mut LogLine> = report.log.iter_mut().filter(|line| is_read(line)).collect();
+    if reads.is_empty() {
+        return;
+    }
+    let line = reads.swap_remove(random.below(reads.len()));
+    line.value = line.value.wrapping_add(random.between(1, 3) as u64);
+    let (rid, wrong) = (line.rid, line.value);
+    if random.percent(50) {
+        let responses = trace.iter_mut().filter_map(response);
+        let own = responses.filter(|response| response.rid == rid);
+        own.for_each(|response| response.value = wrong);
+    }
+    (batch.trace, batch.report) = (write_trace(&trace), write_report(&report));
 }
 
 /// Exchanges what two log lines claim: the operations go to other places, or to each other's requests.

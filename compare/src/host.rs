@@ -155,8 +155,9 @@ impl<'a> Host<'a> {
                     return None;
                 }
                 let num = request.running.operations();
-                self.executed.push(operation.log_line(rid, num));
-                request.running.answer(self.objects.perform(operation));
+                let answer = self.objects.perform(operation);
+                self.executed.push(operation.log_line(rid, num, answer));
+                request.running.answer(answer);
             }
             Pause::End { status, value } => {
                 request.answered = true;

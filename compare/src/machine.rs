@@ -51,7 +51,7 @@ fn fields_exist(instruction: &Instruction, length: u64) -> bool {
     }
 }
 
-/// An operation as a log line has it, without the request that it belongs to.
+/// An operation, without the request that it belongs to. The value is that of a write; of a read it says nothing.
 #[derive(Clone, Copy, Debug, PartialEq, Eq)]
 pub struct Operation {
     pub object: u64,
@@ -70,14 +70,19 @@ impl Operation {
         }
     }
 
-    pub fn log_line(self, rid: u64, num: u64) -> LogLine {
+    /// The log line of an operation that got this answer: a read, kind 6 or 8, shows the value read.
+    pub fn log_line(self, rid: u64, num: u64, answer: u64) -> LogLine {
+        let value = match self.kind {
+            6 | 8 => answer,
+            _ => self.value,
+        };
         LogLine {
             object: self.object,
             rid,
             num,
             kind: self.kind,
             key: self.key,
-            value: self.value,
+            value,
         }
     }
 

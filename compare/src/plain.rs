@@ -86,7 +86,7 @@ impl<'a> PlainRun<'a> {
         let answer = self.objects.perform(operation);
         self.open_request(rid)?.running.answer(answer);
         let log = self.logs.entry(operation.object).or_default();
-        log.push(operation.log_line(rid, num));
+        log.push(operation.log_line(rid, num, answer));
         Some(())
     }
 

@@ -1,10 +1,11 @@
 //! The batches and schedules that the scope paper works out, an example of every row of its table, and the
-//! limits, each with the result that the paper gives; full hundreds of operations; and orders to read, worked
-//! out by hand.
+//! limits, each with the result that the paper gives; full hundreds of operations; orders to read and reads in
+//! the log, worked out by hand.
 
 mod hundreds;
 mod limits;
 mod orders;
+mod reads;
 mod schedules;
 
 use crate::audit::Audited;
@@ -18,7 +19,7 @@ pub const SCHEDULE_OF_C: &[u8] =
 
 const TRACE_OF_C: &str = "request=1,0,0,0\nrequest=2,1,0,0\nresponse=1,0,1\nresponse=2,0,1\n";
 const REPORT_OF_C: &str = "of=1,0,2\nof=2,1,2\n\
-                           log=0,1,1,7,0,1\nlog=0,2,2,6,0,0\nlog=1,2,1,7,0,1\nlog=1,1,2,6,0,0\n";
+                           log=0,1,1,7,0,1\nlog=0,2,2,6,0,1\nlog=1,2,1,7,0,1\nlog=1,1,2,6,0,1\n";
 const ORDER_OF_C: &str = "event=1\nop=1,1\nevent=2\nop=2,1\nop=2,2\nop=1,2\nevent=3\nevent=4\n";
 
 pub use schedules::schedules;
@@ -61,6 +62,7 @@ pub fn batches() -> Vec<Case> {
     cases.extend(limits::limits());
     cases.extend(orders::orders());
     cases.extend(hundreds::hundreds());
+    cases.extend(reads::reads());
     cases
 }
 
@@ -124,7 +126,7 @@ fn worked() -> Vec<Case> {
     let a = batch(
         PROGRAMS,
         "request=1,0,0,0\nresponse=1,0,1\nrequest=2,1,0,0\nresponse=2,0,0\n",
-        "of=1,0,2\nof=2,1,2\nlog=0,2,2,6,0,0\nlog=0,1,1,7,0,1\nlog=1,2,1,7,0,1\nlog=1,1,2,6,0,0\n",
+        "of=1,0,2\nof=2,1,2\nlog=0,2,2,6,0,0\nlog=0,1,1,7,0,1\nlog=1,2,1,7,0,1\nlog=1,1,2,6,0,1\n",
     );
     let looped = batch(LOOP, "request=1,0,0,0\nresponse=1,1,0\n", "of=1,0,0\n");
     vec![
@@ -290,7 +292,7 @@ fn readings() -> Vec<Case> {
             batch(
                 "program=0\ndo=7,0,0,0\ndo=0,1,0,0\nprogram=1\ndo=6,0,0,0\ndo=0,0,0,0\n",
                 "request=2,1,0,0\nrequest=1,0,5,0\nresponse=2,0,5\nresponse=1,0,0\n",
-                "of=2,0,1\nof=1,1,1\nlog=0,1,1,7,3,5\nlog=0,2,1,6,0,0\n",
+                "of=2,0,1\nof=1,1,1\nlog=0,1,1,7,3,5\nlog=0,2,1,6,0,5\n",
             ),
             10,
             2,

@@ -69,8 +69,8 @@ fn case_c_in_words(_: &Room) -> Done {
 op=1,1        report.txt, line 3: "log=0,1,1,7,0,1": request 1 writes 1 to register 0
 event=2       trace.txt, line 2: "request=2,1,0,0"
 op=2,1        report.txt, line 5: "log=1,2,1,7,0,1": request 2 writes 1 to register 1
-op=2,2        report.txt, line 4: "log=0,2,2,6,0,0": request 2 reads register 0 and gets 1
-op=1,2        report.txt, line 6: "log=1,1,2,6,0,0": request 1 reads register 1 and gets 1
+op=2,2        report.txt, line 4: "log=0,2,2,6,0,1": request 2 reads register 0 and gets 1
+op=1,2        report.txt, line 6: "log=1,1,2,6,0,1": request 1 reads register 1 and gets 1
 event=3       trace.txt, line 3: "response=1,0,1"
 event=4       trace.txt, line 4: "response=2,0,1"
 "#,
@@ -221,7 +221,7 @@ fn help_says_what_is_proved(_: &Room) -> Done {
     for part in [
         "the order that 'teaselshears audit' prints",
         "The order is proved: the first word of each line.",
-        "The words behind it are not proved, nor are the line numbers and the values that are read",
+        "The words behind it and the line numbers are not",
         "reads register O and gets V",
         "puts V at key K of store O",
     ] {

@@ -3,7 +3,7 @@
 use crate::harness::{tests, Done};
 use crate::json::{objects, only_object, text, Value};
 use crate::results::{check_all_kept, kept, row};
-use crate::room::{expected_order, read, Room};
+use crate::room::{example, expected_order, read, Room};
 use crate::run::{audit_all, audit_all_json};
 use crate::spool_changed::kept_spool;
 use std::fs;
@@ -13,6 +13,7 @@ tests![
     a_result_from_before_there_was_an_order,
     a_result_from_before_there_was_a_bill,
     a_refused_result_from_before_there_was_a_bill,
+    a_result_from_before_reads_were_shown,
 ];
 
 /// What the earliest version printed of case C, and said.
@@ -100,5 +101,23 @@ fn a_refused_result_from_before_there_was_a_bill(room: &Room) -> Done {
     assert_eq!((&*row.state, &*row.operations), ("refused", "0"));
     assert_eq!((&*row.blocks, &*row.rest), ("", ""));
     assert_eq!(kept(&results), before, "nothing is audited again");
+    Ok(())
+}
+
+/// A batch that was accepted with 0 in the lines of its reads stays so; audited anew it is a 10.
+fn a_result_from_before_reads_were_shown(room: &Room) -> Done {
+    let (spool, results) = kept_spool(room);
+    let earlier = read(example("refused-10-read-not-shown").join("report.txt"));
+    for batch in [spool.join("batch-2"), results.join("batches/batch-2")] {
+        fs::write(batch.join("report.txt"), &earlier).unwrap();
+    }
+    let before = kept(&results);
+    audit_all(&spool, &results).is(0);
+    assert_eq!(row(&results, "batch-2").state, "accepted");
+    assert_eq!(kept(&results), before, "nothing is audited again");
+    fs::remove_dir_all(results.join("batches/batch-2")).unwrap();
+    audit_all(&spool, &results).is(1);
+    let row = row(&results, "batch-2");
+    assert_eq!((&*row.state, &*row.verdict), ("refused", "10"));
     Ok(())
 }

@@ -37,7 +37,7 @@ fn free_later() -> BatchTexts {
          program=1\ndo=7,0,0,0\ndo=7,1,0,0\ndo=7,3,0,0\ndo=0,0,0,0\n",
         "request=1,0,0,0\nrequest=2,1,5,0\nresponse=1,0,5\nresponse=2,0,5\n",
         "of=1,0,2\nof=2,1,3\n\
-         log=1,2,2,7,0,5\nlog=3,2,3,7,0,5\nlog=0,2,1,7,0,5\nlog=0,1,1,6,0,0\nlog=2,1,2,7,0,5\n",
+         log=1,2,2,7,0,5\nlog=3,2,3,7,0,5\nlog=0,2,1,7,0,5\nlog=0,1,1,6,0,5\nlog=2,1,2,7,0,5\n",
     )
 }
 
@@ -46,7 +46,7 @@ fn response_waits() -> BatchTexts {
     batch(
         "program=0\ndo=0,0,0,0\nprogram=1\ndo=9,8,0,1\ndo=8,2,8,0\ndo=0,2,0,0\n",
         "request=1,0,7,0\nrequest=2,1,3,4\nresponse=1,0,7\nresponse=2,0,4\n",
-        "of=1,0,0\nof=2,1,2\nlog=8,2,1,9,3,4\nlog=8,2,2,8,3,0\n",
+        "of=1,0,0\nof=2,1,2\nlog=8,2,1,9,3,4\nlog=8,2,2,8,3,4\n",
     )
 }
 
@@ -59,8 +59,8 @@ fn registers_and_stores() -> BatchTexts {
         "request=30,0,1,5\nrequest=10,1,1,0\nresponse=30,0,5\n\
          request=20,0,2,7\nresponse=20,0,12\nresponse=10,0,12\n",
         "of=30,0,3\nof=10,1,3\nof=20,0,3\n\
-         log=9,10,2,9,1,5\nlog=8,30,3,9,1,5\nlog=0,30,1,6,0,0\nlog=8,10,1,8,1,0\nlog=0,30,2,7,0,5\n\
-         log=8,20,3,9,2,12\nlog=0,20,1,6,0,0\nlog=0,20,2,7,0,12\nlog=0,10,3,6,0,0\n",
+         log=9,10,2,9,1,5\nlog=8,30,3,9,1,5\nlog=0,30,1,6,0,0\nlog=8,10,1,8,1,5\nlog=0,30,2,7,0,5\n\
+         log=8,20,3,9,2,12\nlog=0,20,1,6,0,5\nlog=0,20,2,7,0,12\nlog=0,10,3,6,0,12\n",
     )
 }
 

@@ -18,12 +18,12 @@ use Rattle.text.specs.declared.schedule.Move.the-variants.{Turn}
 use Rattle.text.proofs.RowPuts.{of-puts}
 use Rattle.model.specs.Host.{Host, on, fault, stepped, afterOperation}
 use Rattle.model.specs.Machine.{op}
-use Rattle.model.specs.PlainRun.{opened, answerNow}
+use Rattle.model.specs.PlainRun.{opened, answerNow, lineNow}
 use Rattle.model.specs.PlainRun as plain
 use Rattle.model.proofs.Faithful.{faithful-operate}
 use Rattle.machine.specs.Held.{Objects, ObjectsHeld, Performs, PerformedIs}
 use Rattle.machine.specs.Instance.{intoOf, codeAt}
-use Rattle.machine.specs.Objects.{Content}
+use Rattle.machine.specs.Objects.{Content, shown}
 use Rattle.machine.specs.Processes.{limit, resumed}
 use Rattle.machine.specs.declared.processes.Next.the-variants.{Operation}
 use Rattle.machine.proofs.Bounds.{within}
@@ -126,7 +126,8 @@ module _ {opening : ℕ → Content} {U : List Program} {moves arrivals : List �
         let q = f .requests in
         let row-is = q .rows s (turn.owned g h e d .0) in
         let more : k + 1 ≡ suc k = add-one k in
-        let line : lineOf (x .batch .ofs) s r o ≡ record { rid = r; num = suc k; op = o } = λ j. record { rid = r; num = more j; op = o } in
+        let line : lineOf (x .batch .ofs) s r (shown o answer) ≡ lineNow (M U) (h₀ .state) r (suc k) o =
+        λ j. record { rid = r; num = more j; op = shown o (answers j) } in
         record {
           requests =
               goes-on U slots (x .states) (x .batch .ofs) (x .batch .m) (x .batch .n) (h₀ .state .phase) (h₀ .trace) q r s
@@ -139,7 +140,7 @@ module _ {opening : ℕ → Content} {U : List Program} {moves arrivals : List �
           lines =
               subst (λ l. LinesIs (y .batch .logs) (x .batch .n + 1)
               (upd (h₀ .state .logs) (o .object) (h₀ .state .logs (o .object) ++ l ∷ []))) line
-              (line-joins (x .batch .logs) (x .batch .n) (lineOf (x .batch .ofs) s r o) few (h₀ .state .logs) (f .lines));
+              (line-joins (x .batch .logs) (x .batch .n) (lineOf (x .batch .ofs) s r (shown o answer)) few (h₀ .state .logs) (f .lines));
           objects =
               record {
                 counted = omega (arith, f .objects .counted);

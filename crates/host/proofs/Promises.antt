@@ -30,9 +30,9 @@ locals-as states states′ s n x l m e d = e ∙ ap (withState states s n x) d
 
 -- the request's `of` line is x
 module _ (ofs : List ℕ) (s rid : ℕ) (x : Of) (e : x ≡ ofAt ofs s) where
-  pub line-as : (logs logs′ : List ℕ) (i : ℕ) (o : Op) → logs′ ≡ withEntry logs i (record { rid = rid; num = x .count + 1; op = o }) →
-      logs′ ≡ withEntry logs i (lineOf ofs s rid o)
-  line-as logs logs′ i o d = d ∙ ap (λ x. withEntry logs i (record { rid = rid; num = x .count + 1; op = o })) e
+  pub line-as : (logs logs′ : List ℕ) (i : ℕ) (o u : Op) → logs′ ≡ withEntry logs i (record { rid = rid; num = x .count + 1; op = o }) →
+      o ≡ u → logs′ ≡ withEntry logs i (lineOf ofs s rid u)
+  line-as logs logs′ i o u d f = d ∙ (λ j. withEntry logs i (record { rid = rid; num = e j .count + 1; op = f j }))
 
   pub count-as : (ofs′ : List ℕ) → ofs′ ≡ withOf ofs s (ofLine rid s (x .count + 1)) →
       ofs′ ≡ withOf ofs s (ofLine rid s (ofAt ofs s .count + 1))

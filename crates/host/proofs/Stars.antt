@@ -102,6 +102,10 @@ printed : map recordedText (writesC ∷ fault 15 1 ∷ [])
 unfolding recordedText verdictText lineText numbersText separatorOf decimal digitsIn
 printed = refl
 
+abbrev times : ℕ → String → List String → List String
+times zero l ls = ls
+times (suc n) l ls = l ∷ times n l ls
+
 -- ── the small examples of rows 1, 2 and 13 to 16 ──
 -- C's trace has 62 bytes, its report 82
 abbrev small : List Case
@@ -123,6 +127,12 @@ small =
     ∷ case replies ("arrive=1,0,7,0" ∷ "turn=1" ∷ "turn=1" ∷ []) 31 9
     (texts ("request=1,0,7,0" ∷ "response=1,0,7" ∷ []) ("of=1,0,0" ∷ []))
     ∷ case [] [] 0 0 (texts [] [])
+    -- a register and a store, read before and behind a write
+    ∷ case ("program=0" ∷ "do=6,2,0,0" ∷ "do=7,0,1,0" ∷ "do=6,2,0,0" ∷ "do=8,3,8,0" ∷ "do=9,8,0,1" ∷ "do=8,3,8,0" ∷ "do=0,3,0,0" ∷ [])
+    ("arrive=1,0,7,42" ∷ times 7 "turn=1" []) 65535 65535
+    (texts ("request=1,0,7,42" ∷ "response=1,0,42" ∷ [])
+    ("of=1,0,6" ∷ "log=0,1,1,6,0,0" ∷ "log=0,1,2,7,0,42" ∷ "log=0,1,3,6,0,42"
+    ∷ "log=8,1,4,8,7,0" ∷ "log=8,1,5,9,7,42" ∷ "log=8,1,6,8,7,42" ∷ []))
     ∷ []
 
 rows-13-to-16 : map records small ≡ map (λ c. c .writes) small
@@ -134,10 +144,6 @@ rows-13-to-16 = refl
 -- ── the edges: a program that reads as each second instruction, so that the 128th operation is the 256th instruction ──
 abbrev reading : List String
 reading = "program=0" ∷ "do=1,2,1,0" ∷ "do=6,3,0,0" ∷ "do=5,2,1,0" ∷ "do=0,0,0,0" ∷ []
-
-abbrev times : ℕ → String → List String → List String
-times zero l ls = ls
-times (suc n) l ls = l ∷ times n l ls
 
 abbrev results : (schedule : List String) → Recorded
 results schedule = resultOf (recordOf (text reading) (text schedule) 65535 65535)

@@ -12,6 +12,7 @@ use Rattle.text.specs.declared.report.Of.{Of}
 use Rattle.text.specs.declared.report.Op.{Op}
 use Rattle.text.specs.declared.trace.Event.the-variants.{Request, Response}
 use Rattle.machine.specs.Held.{Objects, Performs}
+use Rattle.machine.specs.Objects.{shown}
 use Rattle.machine.specs.Processes.{Advanced, advanced, firstLocals, limit, advanceOf, resumed}
 use Rattle.machine.specs.declared.processes.Next.{Next}
 use Rattle.machine.specs.declared.processes.Next.the-variants.{Operation, Reply, Cut}
@@ -73,7 +74,7 @@ operated s rid x l o into v left h =
       states = withState (h .states) s 1 x (resumed l into v);
       batch =
           arrays (b .events) (b .t) (withOf (b .ofs) s (ofLine rid s (ofAt (b .ofs) s .count + 1))) (b .m)
-          (withEntry (b .logs) (b .n) (lineOf (b .ofs) s rid o)) (b .n + 1);
+          (withEntry (b .logs) (b .n) (lineOf (b .ofs) s rid (shown o v))) (b .n + 1);
       objects = left;
     }
 

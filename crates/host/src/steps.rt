@@ -21,6 +21,7 @@ use machine::carry_out;
 use machine::first_locals;
 use machine::perform;
 use machine::resume;
+use machine::shown;
 use text::ENTRIES;
 use text::ENTRY_ROWS;
 use text::EVENT_ROWS;
@@ -161,8 +162,9 @@ fn operate(
 {
     let own = of_at(ofs, s);
     let num = own.count + 1;
-    put_entry(logs, c.operations, Entry { rid, num, op: o });
     let p = perform(o, registers, cells, buckets, c.cells);
+    let op = shown(o, p.answer);
+    put_entry(logs, c.operations, Entry { rid, num, op });
     resume(l, into, p.answer);
     put_state(states, s, 1, x, l);
     put_of(

@@ -21,7 +21,7 @@ use Rattle.machine.specs.declared.processes.Next.{Next}
 use Rattle.machine.specs.declared.processes.Next.the-variants.{Operation, Reply, Cut}
 use Rattle.machine.specs.Instructions.{Effect, effectAs, effectOf, local}
 use Rattle.machine.specs.Processes.{Advanced, behind, go, instrAt, resumed}
-use Rattle.machine.specs.Objects.{Content, register, store, reads, apply, changes, written, valueOf}
+use Rattle.machine.specs.Objects.{Content, register, store, reads, apply, changes, written, valueOf, isRead, shown}
 use Rattle.machine.proofs.Steps.{follow}
 use Rattle.machine.specs.Instance.{Process, machine, nextOf, intoOf, codeAt, gone}
 
@@ -174,6 +174,10 @@ module _ (o : Op) (w : Word (o .value)) where
       by true = written-fit c h
       by false = h
 
+-- a read shows its answer
+shown-fit : (o : Op) (answer : ℕ) → FitOp o → Word answer → FitOp (shown o answer)
+shown-fit o answer f w = (f .0, f .1, f .2, word-cond (isRead o) answer (o .value) w (f .3))
+
 words-resumed : (l : List ℕ) (into v : ℕ) → Words l → Word v → Words (resumed l into v)
 words-resumed l into v h w = by (ltb into 8)
   where
@@ -190,7 +194,7 @@ module _ (limit : ℕ) (table : List Program) (words : (prog at : ℕ) → Word 
       record { locals-fit = g .locals-fit; next-fit = g .next-fit; counted = g .counted }
 
   pub operates : (n : ℕ) (p : Process) (o : Op) (c : Content) → (limit - p .done ≤ n) × Words (p .locals) → machine limit table .advance p ≡ op o
-      → FitContent c → FitOp o × FitContent (apply o c .1)
+      → FitContent c → FitOp (shown o (apply o c .0)) × FitContent (apply o c .1)
       × ((m : ℕ) × (suc m ≤ n)
       × ((limit - machine limit table .resume p (apply o c .0) .done ≤ m) × Words (machine limit table .resume p (apply o c .0) .locals)))
   operates n p o c f e h =
@@ -198,16 +202,16 @@ module _ (limit : ℕ) (table : List Program) (words : (prog at : ℕ) → Word 
       let g = went p (f .1) in
       let d = operation (r .stop .next) o e in
       let k = g .counted o (d .0) (d .1) in
-      let w : FitOp o = subst (FitNext Words FitOp Word) (d .1) (g .next-fit) in (
-        w,
+      let w : FitOp o = subst (FitNext Words FitOp Word) (d .1) (g .next-fit) in
+      let answer : Word (apply o c .0) = word-cond (changes o c) 0 (reads c (o .key)) (omega arith) (h (o .key)) in (
+        shown-fit o (apply o c .0) w answer,
         left-fit o (w .3) c h,
         (
           limit - r .stop .done,
           omega (arith, f .0, k .0, k .1),
           (
             omega arith,
-            words-resumed (r .locals) (intoOf (r .stop .next)) (apply o c .0) (g .locals-fit)
-                (word-cond (changes o c) 0 (reads c (o .key)) (omega arith) (h (o .key))),
+            words-resumed (r .locals) (intoOf (r .stop .next)) (apply o c .0) (g .locals-fit) answer,
           ),
         ),
       )

@@ -3,18 +3,24 @@ use Prim.Native.Nat.{ℕ, _+_, _-_, _^_}
 use mathlib.Core.Path.{_≡_, refl}
 use mathlib.Core.Bool.{true, false}
 use mathlib.Core.List.{List, [], _∷_, _++_, map}
-use mathlib.Core.Option.{none, some}
+use mathlib.Core.Option.{Option, none, some}
 use lib.ListN.{getD, length, replicate}
+use Rattle.basics.specs.Maps.{upd}
 use Rattle.text.specs.declared.programs.Instr.{Instr}
 use Rattle.text.specs.declared.programs.Program.{Program}
+use Rattle.text.specs.declared.report.Entry.{Entry}
 use Rattle.text.specs.declared.report.Op.{Op}
+use Rattle.text.specs.declared.trace.Event.the-variants.{Request, Response}
+use Rattle.model.specs.PlainRun.{event, operation, State, initial}
+use Rattle.model.specs.PlainRun as plain
 use Rattle.machine.specs.declared.instructions.Act.the-variants.{Goes, Asks, Replies}
 use Rattle.machine.specs.declared.processes.Next.{Next}
 use Rattle.machine.specs.declared.processes.Next.the-variants.{Operation, Reply, Cut}
 use Rattle.machine.specs.Instructions.{effect, effectAs, effectOf}
 use Rattle.machine.specs.Processes.{Advanced, firstLocals, go, advanceOf, limit}
 use Rattle.machine.specs.Rules.{keepsFields, row2}
-use Rattle.machine.specs.Objects.{atStart}
+use Rattle.machine.specs.Instance.{machineOf}
+use Rattle.machine.specs.Objects.{atStart, shown}
 use Rattle.machine.specs.Logs.{answersFrom}
 
 abbrev instr : (code a b c : ℕ) → Instr
@@ -154,12 +160,43 @@ broken :
 broken = refl
 
 -- ── the objects ──
--- a write is read again; a store has its keys apart, a register none; a key put as 0 or never put reads 0; a kind that does not fit its
--- object does not write
+-- a write is read again, whatever value the line of the read shows; a store has its keys apart, a register none; a key put as 0 or never put
+-- reads 0; a kind that does not fit its object does not write
 answers :
     answersFrom atStart
     (map (λ o. record { rid = 0; num = 0; op = o })
-    (oper 0 7 0 4 ∷ oper 0 6 0 0 ∷ oper 1 6 0 0 ∷ oper 0 7 5 6 ∷ oper 0 6 9 0 ∷ oper 8 9 2 7 ∷ oper 8 8 2 0 ∷ oper 8 8 3 0 ∷ oper 9 8 2 0
+    (oper 0 7 0 4 ∷ oper 0 6 0 9 ∷ oper 1 6 0 0 ∷ oper 0 7 5 6 ∷ oper 0 6 9 0 ∷ oper 8 9 2 7 ∷ oper 8 8 2 9 ∷ oper 8 8 3 0 ∷ oper 9 8 2 0
     ∷ oper 8 9 2 0 ∷ oper 8 8 2 0 ∷ oper 0 9 0 1 ∷ oper 0 6 0 0 ∷ oper 8 9 2 1 ∷ oper 8 7 2 3 ∷ oper 8 8 2 0 ∷ []))
     ≡ 0 ∷ 4 ∷ 0 ∷ 0 ∷ 6 ∷ 0 ∷ 7 ∷ 0 ∷ 0 ∷ 0 ∷ 0 ∷ 6 ∷ 6 ∷ 0 ∷ 1 ∷ 1 ∷ []
 answers = refl
+
+-- what the log line of each kind shows, of an operation with the answer 5
+shows :
+    map (λ o. shown o 5) (oper 1 6 0 0 ∷ oper 1 7 0 4 ∷ oper 8 8 2 0 ∷ oper 8 9 2 7 ∷ [])
+    ≡ oper 1 6 0 5 ∷ oper 1 7 0 4 ∷ oper 8 8 2 5 ∷ oper 8 9 2 7 ∷ []
+shows = refl
+
+-- ── the plain run of case C ──
+abbrev programsC : List Program
+programsC =
+    program 0 (instr 1 2 1 0 ∷ instr 7 0 2 0 ∷ instr 6 0 1 0 ∷ instr 0 0 0 0 ∷ [])
+    ∷ program 1 (instr 1 2 1 0 ∷ instr 7 1 2 0 ∷ instr 6 0 0 0 ∷ instr 0 0 0 0 ∷ []) ∷ []
+
+abbrev entry : (rid num : ℕ) → Op → Entry
+entry rid num o = record { rid = rid; num = num; op = o }
+
+-- the logs of registers 0 and 1
+abbrev logsOf : Option (State (machineOf programsC)) → List (List Entry)
+logsOf none = []
+logsOf (some s) = s .logs 0 ∷ s .logs 1 ∷ []
+
+-- both reads show 1
+logs-C :
+    logsOf (plain.run (machineOf programsC)
+    (event (Request 1 0 0 0) ∷ operation 1 1 ∷ event (Request 2 1 0 0) ∷ operation 2 1 ∷ operation 2 2 ∷ operation 1 2
+    ∷ event (Response 1 0 1) ∷ event (Response 2 0 1) ∷ []) (initial (machineOf programsC) atStart))
+    ≡ (entry 1 1 (oper 0 7 0 1) ∷ entry 2 2 (oper 0 6 0 1) ∷ [])
+    ∷ (entry 2 1 (oper 1 7 0 1) ∷ entry 1 2 (oper 1 6 0 1) ∷ [])
+    ∷ []
+unfolding upd go effectAs
+logs-C = refl

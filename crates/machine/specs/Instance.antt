@@ -1,6 +1,5 @@
 -- The machine of the scope as the model's record, for a table of programs and a limit of instructions.
 use Prim.Native.Nat.{ℕ}
-use mathlib.Core.Path.{refl}
 use mathlib.Core.List.{List, [], _∷_}
 use lib.ListN.{getD}
 use Rattle.text.specs.declared.programs.Instr.{Instr}
@@ -13,6 +12,7 @@ use Rattle.machine.specs.declared.processes.Next.the-variants.{Operation
 use Rattle.machine.specs.Instructions.{noLocal}
 use Rattle.machine.specs.Processes.{Advanced, behind, firstLocals, limit, advanceOf, resumed}
 use Rattle.machine.specs.Objects.{Content, apply, logged}
+use Rattle.machine.specs.Redone.{apply-shown}
 
 -- a request: its program, its locals, its position, how many instructions it has carried out, and their positions
 pub record Process : Type 0 where
@@ -62,7 +62,7 @@ machineBy gone =
       pathAtEnd = λ p. p .prog ∷ gone p .path;
       apply = apply;
       logged = logged;
-      logged-apply = λ o c. refl;
+      logged-apply = λ o c. apply-shown o (apply o c .0) c;
     }
 
 module _ (limit : ℕ) (table : List Program) where

@@ -1,6 +1,7 @@
--- The objects: what an operation answers and leaves, and what its log line shows. Only this file knows which kinds change an object.
+-- The objects: what an operation answers and leaves, and what its log line shows. Only this file knows which kinds change an
+-- object, and which show their answer.
 use Prim.Native.Nat.{ℕ}
-use mathlib.Core.Bool.{Bool, cond}
+use mathlib.Core.Bool.{Bool, cond, _||_}
 use lib.Dec.{eqb, ltb}
 use Rattle.text.specs.declared.report.Op.{Op}
 use Rattle.cells.specs.declared.stores.Cell.{Cell}
@@ -49,6 +50,14 @@ written o (store cells) = store (λ key. cond (eqb (o .key) key) (Put (o .value)
 abbrev pub apply : Op → Content → ℕ × Content
 apply o c = (cond (changes o c) 0 (reads c (o .key)), cond (changes o c) (written o c) c)
 
--- the value field of an operation's log line, given its answer
+-- kinds 6 and 8 read
+abbrev pub isRead : Op → Bool
+isRead o = eqb (o .kind) 6 || eqb (o .kind) 8
+
+-- the value field of an operation's log line, given its answer: the value read, or the value that is written
 abbrev pub logged : Op → ℕ → ℕ
-logged o answer = o .value
+logged o answer = cond (isRead o) answer (o .value)
+
+-- an operation as its log line has it
+abbrev pub shown : Op → (answer : ℕ) → Op
+shown o answer = record { object = o .object; kind = o .kind; key = o .key; value = logged o answer }

@@ -12,6 +12,7 @@ pub use limits::REGISTERS;
 pub use objects::Performed;
 pub use objects::answers;
 pub use objects::perform;
+pub use objects::shown;
 pub use processes::LIMIT;
 pub use processes::Next;
 pub use processes::Stop;

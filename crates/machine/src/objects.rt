@@ -10,8 +10,10 @@ use cells::look;
 use cells::put;
 use text::ENTRIES;
 use text::ENTRY_ROWS;
+use text::GET;
 use text::Op;
 use text::PUT;
+use text::READ;
 use text::WRITE;
 use text::entry_at;
 ghost use mathlib.Core.Path.{_≡_};
@@ -21,7 +23,7 @@ ghost use Rattle.basics.specs.Firsts.{firsts};
 ghost use Rattle.text.specs.Formats.{mostEntries};
 ghost use Rattle.text.specs.Held.{entryAt};
 ghost use Rattle.machine.specs.Limits.{firstStore};
-ghost use Rattle.machine.specs.Objects.{register, apply, valueOf};
+ghost use Rattle.machine.specs.Objects.{register, apply, valueOf, shown};
 ghost use Rattle.machine.specs.Held.{objects, registerLeft, OnStore, Performs, AnswersAll};
 ghost use Rattle.machine.specs.Logs.{ops};
 
@@ -98,6 +100,22 @@ pub fn perform(
         return Performed { answer: v, used };
     }
     on_store(cells, buckets, used, x)
+}
+
+// An operation as its log line has it, given its answer: a read shows the value read.
+pub fn shown(x: Op, answer: u64) -> Op
+    ensures { λ r. ⌜ r ≡ shown x answer ⌝ }
+{
+    let kind = x.kind;
+    match kind {
+        READ | GET => Op {
+            object: x.object,
+            kind,
+            key: x.key,
+            value: answer,
+        },
+        _ => x,
+    }
 }
 
 // The answers of the first n lines, at most ENTRIES, to the front of `out`; how many cells are used behind them.

@@ -1,7 +1,7 @@
 -- The line that claims an operation, at the objects as the lines above it leave them, and its answer.
-use mathlib.Core.Bool.{true, false, cond}
+use mathlib.Core.Bool.{Bool, true, false, cond}
 use mathlib.Core.List.{List, _∷_}
-use mathlib.Core.Path.{_≡_, refl, ap, subst, _∙_}
+use mathlib.Core.Path.{_≡_, refl, sym, ap, subst, _∙_}
 use Prim.Native.Nat.{ℕ, zero, suc, _+_, _≤_, _<_, min}
 use lib.ListN.{getD, length, drop, List·getD-append}
 use lib.Seq.{sets, sets-eq}
@@ -9,19 +9,21 @@ use native.Mathlib.Omega.{arith}
 use Rattle.basics.specs.Firsts.{firsts}
 use Rattle.basics.specs.Scans.{FirstFrom}
 use Rattle.basics.proofs.Firsts.{firsts-length, firsts-front}
+use Rattle.basics.proofs.Tests.{byBool}
 use Rattle.text.specs.Held.{entryAt}
 use Rattle.text.specs.declared.programs.Program.{Program}
 use Rattle.text.specs.declared.report.Entry.{Entry}
 use Rattle.text.specs.declared.report.Op.{Op}
 use Rattle.model.specs.Batch.{claims}
-use Rattle.model.specs.Replay.{Claim, unclaimed, by, claim, sameOp, right}
+use Rattle.model.specs.Replay.{Claim, unclaimed, by, claim, compare, sameOp, Answer, wrong, right}
 use Rattle.model.proofs.Equal.{same-op}
 use Rattle.machine.specs.Instance.{machineOf}
 use Rattle.machine.specs.Held.{Objects, ObjectsHeld, AnswersAll}
 use Rattle.machine.specs.Logs.{after, afterAll, answersFrom}
-use Rattle.machine.specs.Objects.{Content, apply}
+use Rattle.machine.specs.Objects.{Content, apply, shown}
+use Rattle.machine.specs.Redone.{apply-shown}
 use Rattle.machine.proofs.LogLaws.{after-upd, answers-at, answers-length}
-use Rattle.replay.specs.Promises.{AnsweredFrom, Answers}
+use Rattle.replay.specs.Promises.{AnsweredFrom, Setting, claimedIn, Answers}
 use Rattle.replay.specs.declared.claims.Answered.the-variants.{Wrong, Right}
 use Rattle.basics.proofs.Searches.{stateAt, search-hit, search-none}
 
@@ -53,17 +55,46 @@ module _ (table : List Program) where
         search-none (λ c ls. claim (machineOf table) ls c r k) (claims r k) hit (λ c l. after c (l .op)) step n s line opening f l
 
 -- ── an operation held against it ──
+-- the operation as its line would show it with the answer v, against the line
+abbrev compared : Op → Entry → (v : ℕ) → Answer
+compared o l v = cond (sameOp (l .op) (shown o v)) (right v) wrong
+
+module _ (o : Op) (l : Entry) (c : Content) where
+  -- a line that is the operation's, whatever value a read shows in it, answers what the operation does
+  same-answer : (v : ℕ) → sameOp (l .op) (shown o v) ≡ true → apply (l .op) c .0 ≡ apply o c .0
+  same-answer v e = ap (λ p. apply p c .0) (same-op (l .op) (shown o v) e) ∙ ap (λ z. z .0) (apply-shown o v c)
+
+  -- so it comes to the same with the answer of either
+  compared-alike : compared o l (apply (l .op) c .0) ≡ compared o l (apply o c .0)
+  compared-alike = byBool (sameOp (l .op) (shown o (apply (l .op) c .0)))
+      (λ e. ap (compared o l) (same-answer _ e))
+      (λ e. byBool (sameOp (l .op) (shown o (apply o c .0))) (λ d. ap (compared o l) (same-answer _ d)) (λ d. rw (d, e)))
+
 module _ (logs : List ℕ) (n : ℕ) (answers : List ℕ) (r k s : ℕ) (f : FirstFrom (λ i. claims r k (entryAt logs i)) 0 n s) (o : Op) where
   pub answers-none : n ≤ s → Answers logs n answers r k o Wrong
   answers-none l w = rw (claim-none (w .table) r k (w .opening) (entryAt logs) n s f l)
 
-  module _ (l : s < n) (x : Entry) (e : x ≡ entryAt logs s) where
-    pub answers-wrong : sameOp (x .op) o ≡ false → Answers logs n answers r k o Wrong
-    answers-wrong d w = rw (claim-at (w .table) r k (w .opening) (entryAt logs) n s f l, ← e, d)
+  module _ (l : s < n) where
+    abbrev v : ℕ
+    v = getD answers s 0
 
-    pub answers-right : sameOp (x .op) o ≡ true → Answers logs n answers r k o (Right (getD answers s 0))
-    answers-right d w = rw (claim-at (w .table) r k (w .opening) (entryAt logs) n s f l, w .answered .answer s l, ← e, d)
-        (ap (λ p. right (apply p (afterAll (w .opening) (firsts (entryAt logs) s) (x .op .object)) .0)) (same-op (x .op) o d))
+    held-against : (w : Setting logs n answers) → compared o (entryAt logs s) v ≡ compare (machineOf (w .table)) o (claimedIn w r k)
+    held-against w =
+        ap (compared o (entryAt logs s)) (w .answered .answer s l)
+        ∙ compared-alike o (entryAt logs s) (afterAll (w .opening) (firsts (entryAt logs) s) (entryAt logs s .op .object))
+        ∙ sym (ap (compare (machineOf (w .table)) o) (claim-at (w .table) r k (w .opening) (entryAt logs) n s f l))
+
+    module _ (x : Entry) (e : x ≡ entryAt logs s) (y : Op) (g : y ≡ shown o v) where
+      answered : (b : Bool) → sameOp (x .op) y ≡ b → (w : Setting logs n answers) →
+          cond b (right v) wrong ≡ compare (machineOf (w .table)) o (claimedIn w r k)
+      answered b d w =
+          ap (λ b. cond b (right v) wrong) (sym d) ∙ (λ j. cond (sameOp (e j .op) (g j)) (right v) wrong) ∙ held-against w
+
+      pub answers-wrong : sameOp (x .op) y ≡ false → Answers logs n answers r k o Wrong
+      answers-wrong = answered false
+
+      pub answers-right : sameOp (x .op) y ≡ true → Answers logs n answers r k o (Right v)
+      answers-right = answered true
 
 -- ── the answers of all lines ──
 pub answers-prepared : (o o′ : Objects) (before answers logs : List ℕ) (n : ℕ) → n ≤ 1024 →

@@ -5,6 +5,7 @@ use basics::index_of;
 use cells::BUCKETS;
 use cells::CELL_ROWS;
 use machine::REGISTERS;
+use machine::shown;
 use text::ENTRIES;
 use text::ENTRY_ROWS;
 use text::Op;
@@ -116,8 +117,9 @@ pub(crate) fn answer_of(
         return Answered::Wrong;
     }
     let x = entry_at(logs, i);
-    if same_op(x.op, o) {
-        Answered::Right(answers[i])
+    let v = answers[i];
+    if same_op(x.op, shown(o, v)) {
+        Answered::Right(v)
     } else {
         Answered::Wrong
     }

@@ -60,7 +60,7 @@ abbrev pub traceC : (response1 response2 : String) → List String
 traceC response1 response2 = "request=1,0,0,0" ∷ "request=2,1,0,0" ∷ response1 ∷ response2 ∷ []
 
 abbrev pub reportC : (of2 log1 : String) → List String
-reportC of2 log1 = "of=1,0,2" ∷ of2 ∷ log1 ∷ "log=0,2,2,6,0,0" ∷ "log=1,2,1,7,0,1" ∷ "log=1,1,2,6,0,0" ∷ []
+reportC of2 log1 = "of=1,0,2" ∷ of2 ∷ log1 ∷ "log=0,2,2,6,0,1" ∷ "log=1,2,1,7,0,1" ∷ "log=1,1,2,6,0,1" ∷ []
 
 abbrev caseC : Case
 caseC = case programsABC (traceC "response=1,0,1" "response=2,0,1") (reportC "of=2,1,2" "log=0,1,1,7,0,1") (accepted 2 4)
@@ -80,7 +80,7 @@ cases =
     ("of=1,0,2" ∷ "of=2,1,2" ∷ "log=0,2,2,6,0,0" ∷ "log=0,1,1,7,0,1" ∷ "log=1,1,2,6,0,0" ∷ "log=1,2,1,7,0,1" ∷ []) (refused 9 0)
     -- A
     ∷ case programsABC ("request=1,0,0,0" ∷ "response=1,0,1" ∷ "request=2,1,0,0" ∷ "response=2,0,0" ∷ [])
-    ("of=1,0,2" ∷ "of=2,1,2" ∷ "log=0,2,2,6,0,0" ∷ "log=0,1,1,7,0,1" ∷ "log=1,2,1,7,0,1" ∷ "log=1,1,2,6,0,0" ∷ []) (refused 9 0)
+    ("of=1,0,2" ∷ "of=2,1,2" ∷ "log=0,2,2,6,0,0" ∷ "log=0,1,1,7,0,1" ∷ "log=1,2,1,7,0,1" ∷ "log=1,1,2,6,0,1" ∷ []) (refused 9 0)
     -- C's single changes: the first log value, the second response, the second group
     ∷ valueChanged
     ∷ case programsABC (traceC "response=1,0,1" "response=2,0,5") (reportC "of=2,1,2" "log=0,1,1,7,0,1") (refused 11 2)
@@ -95,6 +95,39 @@ stars : map audits cases ≡ map (λ c. c .finds) cases
 unfolding auditOf readPrograms readTrace readReport readText readLines addLine lineOf fieldsOf fieldOf prefix numberOf digitsOf pushOf
     parts onto within addProgram addDo addRequest addResponse addOf addLog go effectAs upd bump
 stars = refl
+
+-- ── what reads show ──
+-- C with other lines for its reads, that of register 0 by request 2 and that of register 1 by request 1
+abbrev readsC : (response2 read2 read1 : String) → Audited → Case
+readsC response2 read2 read1 =
+    case programsABC (traceC "response=1,0,1" response2)
+    ("of=1,0,2" ∷ "of=2,1,2" ∷ "log=0,1,1,7,0,1" ∷ read2 ∷ "log=1,2,1,7,0,1" ∷ read1 ∷ [])
+
+-- a request that puts 4 at key 3 of a store and looks it up, and then key 4
+abbrev looksUp : (response read3 read4 : String) → Audited → Case
+looksUp response read3 read4 =
+    case ("program=0" ∷ "do=9,8,0,1" ∷ "do=8,2,8,0" ∷ "do=8,3,8,1" ∷ "do=0,2,0,0" ∷ []) ("request=1,0,3,4" ∷ response ∷ [])
+    ("of=1,0,3" ∷ "log=8,1,1,9,3,4" ∷ read3 ∷ read4 ∷ [])
+
+abbrev shows : List Case
+shows =
+    -- as reports had it before reads were shown, and one line of them
+    readsC "response=2,0,1" "log=0,2,2,6,0,0" "log=1,1,2,6,0,0" (refused 10 1)
+    ∷ readsC "response=2,0,1" "log=0,2,2,6,0,0" "log=1,1,2,6,0,1" (refused 10 2)
+    -- a wrong value, and the request answers with it, or with the right one
+    ∷ readsC "response=2,0,7" "log=0,2,2,6,0,7" "log=1,1,2,6,0,1" (refused 10 2)
+    ∷ readsC "response=2,0,1" "log=0,2,2,6,0,7" "log=1,1,2,6,0,1" (refused 10 2)
+    -- a key that was put, and one that was not, which reads 0
+    ∷ looksUp "response=1,0,4" "log=8,1,2,8,3,4" "log=8,1,3,8,4,0" (accepted 1 3)
+    ∷ looksUp "response=1,0,4" "log=8,1,2,8,3,0" "log=8,1,3,8,4,0" (refused 10 1)
+    ∷ looksUp "response=1,0,9" "log=8,1,2,8,3,9" "log=8,1,3,8,4,0" (refused 10 1)
+    ∷ looksUp "response=1,0,4" "log=8,1,2,8,3,4" "log=8,1,3,8,4,4" (refused 10 1)
+    ∷ []
+
+reads-shown : map audits shows ≡ map (λ c. c .finds) shows
+unfolding auditOf readPrograms readTrace readReport readText readLines addLine lineOf fieldsOf fieldOf prefix numberOf digitsOf pushOf
+    parts onto within addProgram addDo addRequest addResponse addOf addLog go effectAs upd bump
+reads-shown = refl
 
 -- ── the bill ──
 -- at 0, about the whole hundreds, and at most; of a refusal nothing
@@ -114,7 +147,7 @@ abbrev laterFirst : Case
 laterFirst =
     case ("program=0" ∷ "do=6,0,1,0" ∷ "do=0,0,0,0" ∷ "program=1" ∷ "do=1,2,1,0" ∷ "do=7,1,2,0" ∷ "do=6,0,0,0" ∷ "do=0,0,0,0" ∷ [])
     ("request=1,0,0,0" ∷ "request=2,1,0,0" ∷ "response=2,0,0" ∷ "response=1,0,1" ∷ [])
-    ("of=1,0,1" ∷ "of=2,1,2" ∷ "log=1,2,1,7,0,1" ∷ "log=0,2,2,6,0,0" ∷ "log=1,1,1,6,0,0" ∷ []) (accepted 2 3)
+    ("of=1,0,1" ∷ "of=2,1,2" ∷ "log=1,2,1,7,0,1" ∷ "log=0,2,2,6,0,0" ∷ "log=1,1,1,6,0,1" ∷ []) (accepted 2 3)
 
 -- of C, of empty texts, of a refusal, and of the batch above
 printed : map (λ c. printedText (text (c .programLines)) (text (c .traceLines)) (text (c .reportLines)))

@@ -11,10 +11,13 @@ returns c =
     let a = c .before .before .args in
     answers-none (a .logs .now) (a .n) (a .answers .now) (a .rid) (a .num) _ (c .before .claim-at .ensures) (a .o) (c .if1 .taken)
 
--- the way back from where the operations were compared
-module _ (s : tie.After-same-op) where
+-- the way back from the line's answer
+module _ (s : tie.After-v) where
+  abbrev at-entry-at : tie.After-entry-at
+  at-entry-at = s .before
+
   abbrev at-if1 : tie.Else1
-  at-if1 = s .before .before
+  at-if1 = at-entry-at .before
 
   abbrev at-claim-at : tie.After-claim-at
   at-claim-at = at-if1 .before
@@ -22,22 +25,26 @@ module _ (s : tie.After-same-op) where
   abbrev start : tie.Start
   start = at-claim-at .before
 
-element-copy-out-t17 : tie.Need-element-copy-out-t17
-element-copy-out-t17 c = omega (arith, start (c .before) .pre .few)
+element-copy-out-v : tie.Need-element-copy-out-v
+element-copy-out-v c = omega (arith, c .before .before .before .pre .few)
 
 returns-2 : tie.Need-returns-2
 returns-2 c =
-    let s = c .before .before in
+    let compares = c .before in
+    let shows = compares .before in
+    let s = shows .before in
     let a = start s .args in
     answers-right (a .logs .now) (a .n) (a .answers .now) (a .rid) (a .num) _ (at-claim-at s .claim-at .ensures) (a .o)
-    (at-if1 s .if1 .left) _ (s .before .entry-at .ensures) (sym (s .same-op .ensures) ∙ c .before .if2 .taken)
+    (at-if1 s .if1 .left) _ (at-entry-at s .entry-at .ensures) _ (shows .shown .ensures) (sym (compares .same-op .ensures) ∙ c .if2 .taken)
 
 returns-3 : tie.Need-returns-3
 returns-3 c =
-    let s = c .before in
+    let compares = c .before in
+    let shows = compares .before in
+    let s = shows .before in
     let a = start s .args in
     answers-wrong (a .logs .now) (a .n) (a .answers .now) (a .rid) (a .num) _ (at-claim-at s .claim-at .ensures) (a .o)
-    (at-if1 s .if1 .left) _ (s .before .entry-at .ensures) (sym (s .same-op .ensures) ∙ c .if2 .left)
+    (at-if1 s .if1 .left) _ (at-entry-at s .entry-at .ensures) _ (shows .shown .ensures) (sym (compares .same-op .ensures) ∙ c .if2 .left)
 
 pub answer-of-spec : {M : Type 1} → statement M
 answer-of-spec =
@@ -46,8 +53,9 @@ answer-of-spec =
     (λ c κs. (c .pre .few, c .pre .index))
     returns
     (λ c κs. search needs)
-    (λ c κs. search needs)
     (λ c. search needs)
-    element-copy-out-t17
+    element-copy-out-v
+    (λ c κs. search needs)
+    (λ c κs. search needs)
     returns-2
     returns-3)

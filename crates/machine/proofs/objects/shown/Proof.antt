@@ -1,0 +1,14 @@
+-- `shown` meets its contract.
+use mathlib.Core.Logic.{inl, inr}
+use Rattle.basics.proofs.Tests.{eqb-no}
+use Rattle.machine.proofs.objects.shown.Statement.{statement}
+use Rattle.machine.proofs.objects.shown.Tie as tie
+
+returns : tie.Need-returns
+returns c = elim (c .match .keys1) [ inl e ↦ rw e | inr e ↦ rw e ]
+
+returns-2 : tie.Need-returns-2
+returns-2 c = rw (eqb-no (λ e. c .match .rest .1 (inl e)), eqb-no (λ e. c .match .rest .1 (inr e)))
+
+pub shown-spec : {M : Type 1} → statement M
+shown-spec = tie.close (tie.spec returns returns-2)
