@@ -355,7 +355,7 @@ fn show_reads(report: &mut Report) {
 }
 
 fn is_read(line: &LogLine) -> bool {
-    matches!(line.kind, 6 | 8)
+    Operation::claimed_by(line).is_read()
 }
 
 /// Shows 0 for every read, as reports did before reads were shown.

@@ -70,20 +70,20 @@ impl Operation {
         }
     }
 
-    /// The log line of an operation that got this answer: a read, kind 6 or 8, shows the value read.
+    /// The log line of an operation that got this answer: a read shows the value read.
     pub fn log_line(self, rid: u64, num: u64, answer: u64) -> LogLine {
-        let value = match self.kind {
-            6 | 8 => answer,
-            _ => self.value,
-        };
         LogLine {
             object: self.object,
             rid,
             num,
             kind: self.kind,
             key: self.key,
-            value,
+            value: if self.is_read() { answer } else { self.value },
         }
+    }
+
+    pub fn is_read(self) -> bool {
+        matches!(self.kind, 6 | 8)
     }
 
     /// A line of kind 7 on a register or 9 on a store. A report may claim others, 9 on a register say:

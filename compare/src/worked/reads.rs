@@ -31,7 +31,7 @@ fn registers() -> Vec<Case> {
             10,
             2,
         ),
-        // The wrong value is what the request answers with, had it been read.
+        // Had request 2 read 7, it would have answered 7.
         refused(
             "a wrong value shown and answered",
             changed_c(

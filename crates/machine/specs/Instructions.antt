@@ -38,7 +38,7 @@ becomes l i v n = effect (assign l (i .a) v) (Goes n)
 abbrev pub noLocal : ℕ
 noLocal = mostLocals
 
--- an operation, whose kind is the code, and the local for its answer
+-- an operation, whose kind is the code, with 0 for a key or value that it does not have, and the local for its answer
 abbrev pub asks : List ℕ → Instr → (object key value into : ℕ) → Effect
 asks l i object key value into = effect l (Asks (record { object = object % mostObjects; kind = i .code; key = key; value = value }) into)
 
