@@ -117,22 +117,34 @@ fn changed_c(trace: [&str; 2], report: [&str; 2]) -> BatchTexts {
 
 const SAME: [&str; 2] = ["", ""];
 
-fn worked() -> Vec<Case> {
-    let b = batch(
+/// Case B, whose reads show this value; by its logs both gave 0.
+fn case_b(read: u64) -> BatchTexts {
+    let log_0 = format!("log=0,2,2,6,0,{read}\nlog=0,1,1,7,0,1\n");
+    let log_1 = format!("log=1,1,2,6,0,{read}\nlog=1,2,1,7,0,1\n");
+    batch(
         PROGRAMS,
         "request=1,0,0,0\nrequest=2,1,0,0\nresponse=1,0,0\nresponse=2,0,0\n",
-        "of=1,0,2\nof=2,1,2\nlog=0,2,2,6,0,0\nlog=0,1,1,7,0,1\nlog=1,1,2,6,0,0\nlog=1,2,1,7,0,1\n",
-    );
-    let a = batch(
+        &format!("of=1,0,2\nof=2,1,2\n{log_0}{log_1}"),
+    )
+}
+
+/// Case A, whose read of register 0 shows this value; by its log it gave 0.
+fn case_a(read: u64) -> BatchTexts {
+    let log_0 = format!("log=0,2,2,6,0,{read}\nlog=0,1,1,7,0,1\n");
+    let log_1 = "log=1,2,1,7,0,1\nlog=1,1,2,6,0,1\n";
+    batch(
         PROGRAMS,
         "request=1,0,0,0\nresponse=1,0,1\nrequest=2,1,0,0\nresponse=2,0,0\n",
-        "of=1,0,2\nof=2,1,2\nlog=0,2,2,6,0,0\nlog=0,1,1,7,0,1\nlog=1,2,1,7,0,1\nlog=1,1,2,6,0,1\n",
-    );
+        &format!("of=1,0,2\nof=2,1,2\n{log_0}{log_1}"),
+    )
+}
+
+fn worked() -> Vec<Case> {
     let looped = batch(LOOP, "request=1,0,0,0\nresponse=1,1,0\n", "of=1,0,0\n");
     vec![
         accepted("case C", case_c(), [2, 4, 0, 4]).in_order(ORDER_OF_C),
-        refused("case B", b, 9, 0),
-        refused("case A", a, 9, 0),
+        refused("case B", case_b(0), 9, 0),
+        refused("case A", case_a(0), 9, 0),
         accepted("all empty", BatchTexts::default(), [0; 4]).in_order(""),
         accepted("the loop", looped, [1, 0, 0, 0]).in_order("event=1\nevent=2\n"),
     ]

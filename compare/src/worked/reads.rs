@@ -1,6 +1,9 @@
 //! Log lines that show what a read gave, rightly and wrongly, each with the result worked out by hand.
 
-use super::{accepted, batch, changed_c, refused, Case, PROGRAMS, SAME, TRACE_OF_C};
+use super::{
+    accepted, batch, case_a, case_b, changed_c, refused, Case, PROGRAMS, REPORT_OF_C, SAME,
+    TRACE_OF_C,
+};
 
 /// Request 1 puts b at key a of store 8; request 2 looks a key up.
 const STORE: &str = "program=0\ndo=9,8,0,1\ndo=0,1,0,0\nprogram=1\ndo=8,2,8,0\ndo=0,2,0,0\n";
@@ -14,14 +17,13 @@ pub fn reads() -> Vec<Case> {
 
 /// Case C: request 2 reads register 0 by line 4, request 1 register 1 by line 6, and both get 1.
 fn registers() -> Vec<Case> {
-    let of_before = "of=1,0,2\nof=2,1,2\n\
-                     log=0,1,1,7,0,1\nlog=0,2,2,6,0,0\nlog=1,2,1,7,0,1\nlog=1,1,2,6,0,0\n";
+    let of_before = REPORT_OF_C.replace(",6,0,1\n", ",6,0,0\n");
     let shown_as = |value| ["log=0,2,2,6,0,1", value];
     let answered_as = |value| ["response=2,0,1", value];
     vec![
         refused(
             "reads not shown",
-            batch(PROGRAMS, TRACE_OF_C, of_before),
+            batch(PROGRAMS, TRACE_OF_C, &of_before),
             10,
             1,
         ),
@@ -84,18 +86,8 @@ fn stores() -> Vec<Case> {
 
 /// Cases A and B with the lines of case C as they stand, exchanged: the order is looked at first.
 fn above_row_10() -> Vec<Case> {
-    let b = batch(
-        PROGRAMS,
-        "request=1,0,0,0\nrequest=2,1,0,0\nresponse=1,0,0\nresponse=2,0,0\n",
-        "of=1,0,2\nof=2,1,2\nlog=0,2,2,6,0,1\nlog=0,1,1,7,0,1\nlog=1,1,2,6,0,1\nlog=1,2,1,7,0,1\n",
-    );
-    let a = batch(
-        PROGRAMS,
-        "request=1,0,0,0\nresponse=1,0,1\nrequest=2,1,0,0\nresponse=2,0,0\n",
-        "of=1,0,2\nof=2,1,2\nlog=0,2,2,6,0,1\nlog=0,1,1,7,0,1\nlog=1,2,1,7,0,1\nlog=1,1,2,6,0,1\n",
-    );
     vec![
-        refused("case B and C's values", b, 9, 0),
-        refused("case A and C's values", a, 9, 0),
+        refused("case B and C's values", case_b(1), 9, 0),
+        refused("case A and C's values", case_a(1), 9, 0),
     ]
 }

@@ -59,8 +59,12 @@ programsABC =
 abbrev pub traceC : (response1 response2 : String) → List String
 traceC response1 response2 = "request=1,0,0,0" ∷ "request=2,1,0,0" ∷ response1 ∷ response2 ∷ []
 
+-- read2 and read1 are the reads of register 0 by request 2, and of register 1 by request 1
+abbrev reportWith : (of2 log1 read2 read1 : String) → List String
+reportWith of2 log1 read2 read1 = "of=1,0,2" ∷ of2 ∷ log1 ∷ read2 ∷ "log=1,2,1,7,0,1" ∷ read1 ∷ []
+
 abbrev pub reportC : (of2 log1 : String) → List String
-reportC of2 log1 = "of=1,0,2" ∷ of2 ∷ log1 ∷ "log=0,2,2,6,0,1" ∷ "log=1,2,1,7,0,1" ∷ "log=1,1,2,6,0,1" ∷ []
+reportC of2 log1 = reportWith of2 log1 "log=0,2,2,6,0,1" "log=1,1,2,6,0,1"
 
 abbrev caseC : Case
 caseC = case programsABC (traceC "response=1,0,1" "response=2,0,1") (reportC "of=2,1,2" "log=0,1,1,7,0,1") (accepted 2 4)
@@ -97,11 +101,10 @@ unfolding auditOf readPrograms readTrace readReport readText readLines addLine l
 stars = refl
 
 -- ── what reads show ──
--- C with other lines for its reads, that of register 0 by request 2 and that of register 1 by request 1
+-- C with other lines for its reads
 abbrev readsC : (response2 read2 read1 : String) → Audited → Case
 readsC response2 read2 read1 =
-    case programsABC (traceC "response=1,0,1" response2)
-    ("of=1,0,2" ∷ "of=2,1,2" ∷ "log=0,1,1,7,0,1" ∷ read2 ∷ "log=1,2,1,7,0,1" ∷ read1 ∷ [])
+    case programsABC (traceC "response=1,0,1" response2) (reportWith "of=2,1,2" "log=0,1,1,7,0,1" read2 read1)
 
 -- a request that puts 4 at key 3 of a store and looks it up, and then key 4
 abbrev looksUp : (response read3 read4 : String) → Audited → Case
