@@ -1,13 +1,9 @@
--- At the end of a run: row 15 on the arrays is the model's, and what the arrays hold is the batch that the model's host writes.
+-- At the end of a run: what the arrays hold is the batch that the model's host writes.
 use Prim.Native.Nat.{ℕ, zero, suc, _+_, _≤_, _<_, min}
-use mathlib.Core.Bool.{Bool, true, false}
 use mathlib.Core.List.{List, [], _∷_, _++_}
 use mathlib.Core.Path.{_≡_, refl, sym, ap, _∙_}
-use native.Mathlib.Nat.{mod-eq-of-lt}
 use native.Mathlib.Omega.{arith}
-use lib.ListN.{length, getD}
-use borrow.Author.Tests.{lt-ltb}
-use Rattle.basics.specs.Lists.{All}
+use lib.ListN.{length}
 use Rattle.basics.specs.Firsts.{firsts}
 use Rattle.basics.proofs.Firsts.{firsts-length, firsts-same}
 use Rattle.basics.proofs.Tests.{byBool}
@@ -16,17 +12,14 @@ use Rattle.text.specs.Rows.{row}
 use Rattle.text.specs.declared.programs.Program.{Program}
 use Rattle.text.specs.declared.report.Entry.{Entry}
 use Rattle.text.specs.declared.report.Of.{Of}
-use Rattle.text.specs.declared.schedule.Move.the-variants.{Arrive, Turn}
-use Rattle.text.specs.declared.schedule.Move.{Move}
 use Rattle.text.specs.declared.trace.Event.the-variants.{Request, Response}
 use Rattle.text.specs.declared.trace.Event.{Event}
-use Rattle.model.specs.FirstBad.{firstBad}
-use Rattle.model.specs.Host.{Host, isOpen, bad15, row15, ofsFrom, logsFrom, batchWritten}
+use Rattle.model.specs.Host.{Host, ofsFrom, logsFrom, batchWritten}
 use Rattle.model.specs.PlainRun.{State, Phase, absent, opened, closed, operationsOf}
 use Rattle.replay.specs.Arrays.{Arrays, arrays}
 use Rattle.host.specs.Memory.{Memory}
 use Rattle.host.specs.Recorded.{textsOf}
-use Rattle.host.specs.Requests.{isOpenIn, standingIn, waitsIn}
+use Rattle.host.specs.Requests.{isOpenIn}
 use Rattle.host.specs.Runs.{
   Seen,
   missing,
@@ -35,58 +28,25 @@ use Rattle.host.specs.Runs.{
   seenRow,
   seenSlot,
   ridsOf,
-  leftOpen,
   M,
   seen,
   RequestsIs,
   EventsIs,
   LinesIs,
-  RidIn,
 }
 use Rattle.host.specs.Steps.{heldTexts, linesOf, Sorted}
 use Rattle.host.proofs.Sorting.{lines-few}
 
--- what is seen of a request: whether it is open, and its operations
-abbrev opensIn : Seen → Bool
-opensIn missing = false
-opensIn (going prog l at done k) = true
-opensIn (over k) = false
-
+-- the operations of a request, as it is seen
 abbrev operationsIn : Seen → ℕ
 operationsIn missing = 0
 operationsIn (going prog l at done k) = k
 operationsIn (over k) = k
 
-row-opens : (v : List ℕ) (k : ℕ) → opensIn (seenRow v k) ≡ isOpenIn v
-row-opens v k = byBool (isOpenIn v) (λ t. rw t refl) (λ t. rw t refl)
-
 row-operations : (v : List ℕ) (k : ℕ) → operationsIn (seenRow v k) ≡ k
 row-operations v k = byBool (isOpenIn v) (λ t. rw t refl) (λ t. rw t refl)
 
--- a slot below 65 waits where its request is open
-slot-waits : (states ofs : List ℕ) (slot : ℕ) → slot ≤ 64 → opensIn (seenSlot states ofs slot) ≡ waitsIn (standingIn states slot)
-unfolding standingIn
-slot-waits states ofs zero h = refl
-slot-waits states ofs (suc s) h =
-    let v = row 12 states s in
-    row-opens v (ofAt ofs s .count)
-    ∙ byBool (isOpenIn v) (λ t. rw (lt-ltb s 64 (omega arith), t) refl) (λ t. rw (lt-ltb s 64 (omega arith), t) refl)
-
--- a scan by another test that says the same
-scan-same : (p q : List Move → Move → Bool) (P : Move → Type 0) → ((past : List Move) (m : Move) → P m → p past m ≡ q past m) →
-    (n : ℕ) (past ms : List Move) → All P ms → firstBad p n past ms ≡ firstBad q n past ms
-scan-same p q P h n past [] a = refl
-scan-same p q P h n past (m ∷ ms) a =
-    let e = h past m (a .0) in
-    let d = scan-same p q P h (suc n) (m ∷ past) ms (a .1) in
-    byBool (q past m) (λ t. rw (e ∙ t, t) refl) (λ t. rw (e ∙ t, t) d)
-
 module _ (table : List Program) where
-  opens-as : (f : Phase (M table)) → isOpen (M table) f ≡ opensIn (seen table f)
-  opens-as absent = refl
-  opens-as (opened p k) = refl
-  opens-as (closed w k) = refl
-
   operations-as : (f : Phase (M table)) → operationsOf (M table) f ≡ operationsIn (seen table f)
   operations-as absent = refl
   operations-as (opened p k) = refl
@@ -126,20 +86,6 @@ module _ (table : List Program) where
 
   module _ (slots states ofs : List ℕ) (m k : ℕ) (s : State (M table)) (trace : List Event)
       (g : RequestsIs table slots states ofs m k (s .phase) trace) where
-    slot-few : (r : ℕ) → r < 65536 → (slot : ℕ) → getD slots r 0 ≡ slot → slot ≤ 64
-    slot-few r h zero e = omega arith
-    slot-few r h (suc q) e = omega (arith, g .owner r q h e .0, g .few)
-
-    bad-same : (past : List Move) (x : Move) → RidIn x → bad15 (M table) s past x ≡ leftOpen slots states past x
-    bad-same past (Turn r) h = refl
-    bad-same past (Arrive r prog a b) h =
-        opens-as (s .phase r) ∙ ap opensIn (g .phases r h)
-        ∙ slot-waits states ofs (getD slots r 0) (slot-few r h (getD slots r 0) refl)
-        ∙ ap (λ q. waitsIn (standingIn states (getD slots q 0))) (sym (mod-eq-of-lt h))
-
-    pub row15-is : (ms : List Move) → All RidIn ms → row15 (M table) s ms ≡ firstBad (leftOpen slots states) 1 [] ms
-    row15-is ms a = scan-same (bad15 (M table) s) (leftOpen slots states) RidIn bad-same 1 [] ms a
-
     of-is : (q : ℕ) → q < m → ofAt ofs q
         ≡ record { rid = ofAt ofs q .rid; group = q; count = operationsOf (M table) (s .phase (ofAt ofs q .rid)) }
     of-is q h =

@@ -8,7 +8,7 @@ use Rattle.text.specs.Programs.{readPrograms, known}
 use Rattle.text.specs.Schedule.{readSchedule}
 use Rattle.text.specs.declared.schedule.Move.{Move}
 use Rattle.model.specs.Checks.{faultOr, badLine, contents}
-use Rattle.model.specs.Host.{Result, fault, made, Host, empty, Stepped, broken, on, stepped, goOn, runFrom, row15, close, recorded, andThen}
+use Rattle.model.specs.Host.{Result, fault, made, Host, empty, Stepped, broken, on, stepped, goOn, runFrom, recorded, andThen}
 use Rattle.model.specs.Machine.{Machine}
 use Rattle.machine.specs.Instance.{machineOf}
 use Rattle.machine.specs.Objects.{Content, atStart}
@@ -41,8 +41,7 @@ module _ (M : Machine) (known : ℕ → Bool) (limit : ℕ) where
 
   run-numbered : (objects : ℕ) (opening : ℕ → M .Content) (ms : List Move) → Numbered (recorded M known limit objects opening ms)
   run-numbered objects opening ms =
-      then-numbered (runFrom M known limit 1 ms (empty M opening)) (close M objects ms) (lines-numbered 1 ms (empty M opening))
-      (λ h. row-numbered 15 (row15 M (h .state) ms) _ (omega arith) tt)
+      then-numbered (runFrom M known limit 1 ms (empty M opening)) _ (lines-numbered 1 ms (empty M opening)) (λ h. tt)
 
 pub record-numbered : (programs schedule : List ℕ) (m n : ℕ) → Numbered (recordOf programs schedule m n)
 unfolding recordOf batchRecorded

@@ -2,7 +2,6 @@
 use Prim.Native.Nat.{ℕ, _≤_, min}
 use mathlib.Core.Bool.{true, false}
 use mathlib.Core.List.{List, [], _∷_}
-use mathlib.Core.Option.{Option}
 use mathlib.Core.Path.{_≡_, refl, sym, ap, subst, _∙_}
 use native.Mathlib.Omega.{arith}
 use lib.ListN.{length, replicate}
@@ -22,8 +21,7 @@ use Rattle.text.specs.declared.schedule.Move.{Move}
 use Rattle.text.proofs.ProgramsReading.{table-read}
 use Rattle.model.specs.Batch.{Batch}
 use Rattle.model.specs.Checks.{faultOr, badLine, contents}
-use Rattle.model.specs.FirstBad.{firstBad}
-use Rattle.model.specs.Host.{Result, fault, made, close, batchWritten, andThen}
+use Rattle.model.specs.Host.{Host, Result, fault, made, batchWritten, andThen}
 use Rattle.model.proofs.Scans.{holds, passes}
 use Rattle.machine.specs.Held.{objects}
 use Rattle.machine.specs.Objects.{Content, atStart}
@@ -37,7 +35,7 @@ use Rattle.replay.specs.Arrays.{arrays}
 use Rattle.host.specs.Memory.{Memory}
 use Rattle.host.specs.Accepted.{Accepted}
 use Rattle.host.specs.Recorded.{runOf, batchFrom, batchRecorded, Texts, textsOf, fitted, recordOf, resultOf, RecordIs}
-use Rattle.host.specs.Runs.{leftOpen, M, RidIn, movesIn, ran, recordedMoves, Scheduled, Ready, Finished, RunIs}
+use Rattle.host.specs.Runs.{M, RidIn, movesIn, ran, recordedMoves, Scheduled, Ready, Finished, RunIs}
 use Rattle.host.specs.Steps.{heldTexts, Sorted}
 use Rattle.host.specs.Tables.{Table, programsOf, Laid}
 use Rattle.host.specs.declared.Recorded.{Recorded}
@@ -45,7 +43,7 @@ use Rattle.host.specs.declared.runs.Run.the-variants.{Breaks, Ends}
 use Rattle.host.specs.declared.runs.Run.{Run}
 use Rattle.host.specs.declared.steps.Counts.{Counts}
 use Rattle.host.proofs.Acceptance.{record-accepted}
-use Rattle.host.proofs.Finishing.{row15-is, texts-are}
+use Rattle.host.proofs.Finishing.{texts-are}
 use Rattle.host.proofs.Readings.{MoveIn, schedule-in}
 use Rattle.host.proofs.Tables.{recorded-same}
 
@@ -55,7 +53,7 @@ pub refuses : (x : Result Texts) (o p : List ℕ) (verdict line : ℕ) (r : Reco
 unfolding front
 refuses x o p verdict line r e d = rw e (record { result = d; traceBytes = refl; reportBytes = refl })
 
--- ── rows 14 to 16 ──
+-- ── rows 14 and 16 ──
 -- the objects at the start are all 0, and no cell is used
 pub ready : (moves arrivals : List ℕ) (n : ℕ) (slots states ofs events logs cells : List ℕ) → Scheduled moves arrivals n →
     slots ≡ replicate 65536 0 → length states ≡ 768 → length ofs ≡ 192 → length events ≡ 640 → length logs ≡ 6144 → length cells ≡ 8192 →
@@ -78,11 +76,15 @@ module _ (opening : ℕ → Content) (table : List Program) (moves arrivals : Li
   moved = movesIn moves arrivals n
 
   module _ (u v : ℕ) (slots : List ℕ) (after : Counts → Memory) (x : Run) (f : RunIs opening table moves arrivals n slots after x) where
+    -- what is made of a run
+    abbrev written : Result (Host (M table)) → Result Texts
+    written z = andThen (andThen z (λ h. made (batchWritten (M table) 16 h))) (λ b. fitted u v (textsOf b))
+
     pub at-14 : (line : ℕ) → x ≡ Breaks line → recordedMoves opening table moved u v ≡ fault 14 line
     unfolding RunIs
     at-14 line e =
         let d : ran opening table moved ≡ fault 14 line = subst (RunIs opening table moves arrivals n slots after) e f in
-        ap (λ z. andThen (andThen z (close (M table) 16 moved)) (λ b. fitted u v (textsOf b))) d
+        ap written d
 
     module _ (c : Counts) (e : x ≡ Ends c) where
       abbrev kept : Memory
@@ -95,29 +97,13 @@ module _ (opening : ℕ → Content) (table : List Program) (moves arrivals : Li
       pub few-lines : after c .batch .n ≤ 1024
       few-lines = finished .lines .few
 
-      abbrev closes : Option ℕ → Result Texts
-      closes o = andThen (faultOr fault 15 o (made (batchWritten (M table) 16 (finished .host)))) (λ b. fitted u v (textsOf b))
-
-      closing : (s : Scheduled moves arrivals n) → (o : Option ℕ) → o ≡ firstBad (leftOpen slots (kept .states)) 1 [] moved →
-          recordedMoves opening table moved u v ≡ closes o
-      closing s o d =
+      pub past-14 : (sorted : List ℕ) (l : ℕ) → Sorted (after c .batch .logs) (after c .batch .n) 16 sorted l →
+          recordedMoves opening table moved u v
+          ≡ fitted u v (heldTexts (arrays (after c .batch .events) (after c .batch .t) (after c .batch .ofs) (after c .batch .m) sorted l))
+      past-14 sorted l z =
           let w = finished in
-          let z = row15-is table slots (kept .states) (kept .batch .ofs) (kept .batch .m) (kept .batch .n) (w .host .state) (w .host .trace)
-          (w .requests) moved (s .rids) in
-          ap (λ z. andThen (andThen z (close (M table) 16 moved)) (λ b. fitted u v (textsOf b))) (w .made-it)
-          ∙ ap closes (z ∙ sym d)
-
-      module _ (s : Scheduled moves arrivals n) (y : Ruling) (d : brokenLine y ≡ firstBad (leftOpen slots (kept .states)) 1 [] moved) where
-        pub at-15 : (line : ℕ) → y ≡ Broken line → recordedMoves opening table moved u v ≡ fault 15 line
-        at-15 line k = closing s (brokenLine y) d ∙ ap (λ y. closes (brokenLine y)) k
-
-        pub past-15 : y ≡ Kept → (sorted : List ℕ) (l : ℕ) → Sorted (after c .batch .logs) (after c .batch .n) 16 sorted l →
-            recordedMoves opening table moved u v
-            ≡ fitted u v (heldTexts (arrays (after c .batch .events) (after c .batch .t) (after c .batch .ofs) (after c .batch .m) sorted l))
-        past-15 k sorted l z =
-            let w = finished in
-            closing s (brokenLine y) d ∙ ap (λ y. closes (brokenLine y)) k
-            ∙ ap (fitted u v) (sym (texts-are table slots kept sorted l (w .host) (w .requests) (w .events-held) (w .lines) z))
+          ap written (w .made-it)
+          ∙ ap (fitted u v) (sym (texts-are table slots kept sorted l (w .host) (w .requests) (w .events-held) (w .lines) z))
 
 pub record-as : (x y : Result Texts) (o p o′ p′ : List ℕ) (r : Recorded) → x ≡ y → RecordIs y o p o′ p′ r → RecordIs x o p o′ p′ r
 record-as x y o p o′ p′ r e h = rw e h

@@ -97,8 +97,8 @@ unfolding auditOf recordOf batchRecorded readPrograms readTrace readReport readS
 stars = refl
 
 -- what the program prints: C's texts behind the verdict with its line, and of a refusal that alone
-printed : map recordedText (writesC ∷ fault 15 1 ∷ [])
-    ≡ text ("verdict=0" ∷ "line=0" ∷ (trace ++ report)) ∷ text ("verdict=15" ∷ "line=1" ∷ []) ∷ []
+printed : map recordedText (writesC ∷ fault 14 1 ∷ [])
+    ≡ text ("verdict=0" ∷ "line=0" ∷ (trace ++ report)) ∷ text ("verdict=14" ∷ "line=1" ∷ []) ∷ []
 unfolding recordedText verdictText lineText numbersText separatorOf decimal digitsIn
 printed = refl
 
@@ -116,8 +116,6 @@ small =
     ∷ case [] ("turn=1" ∷ []) 0 0 (fault 14 1)
     ∷ case replies ("arrive=1,0,0,0" ∷ "turn=1" ∷ "arrive=1,0,0,0" ∷ []) 0 0 (fault 14 3)
     ∷ case replies ("arrive=1,1,0,0" ∷ []) 0 0 (fault 14 1)
-    ∷ case replies ("arrive=1,0,0,0" ∷ []) 0 0 (fault 15 1)
-    ∷ case replies ("arrive=1,0,0,0" ∷ "turn=1" ∷ "arrive=2,0,0,0" ∷ "arrive=3,0,0,0" ∷ []) 0 0 (fault 15 3)
     ∷ case programsABC scheduleC 10 65535 (fault 16 0)
     ∷ case programsABC scheduleC 61 82 (fault 16 0)
     ∷ case programsABC scheduleC 62 81 (fault 16 0)
@@ -127,6 +125,14 @@ small =
     ∷ case replies ("arrive=1,0,7,0" ∷ "turn=1" ∷ "turn=1" ∷ []) 31 9
     (texts ("request=1,0,7,0" ∷ "response=1,0,7" ∷ []) ("of=1,0,0" ∷ []))
     ∷ case [] [] 0 0 (texts [] [])
+    -- requests left open: arrivals only; behind one operation, with another behind its last, and a third answered
+    ∷ case replies ("arrive=1,0,0,0" ∷ "arrive=2,0,0,0" ∷ []) 32 18
+    (texts ("request=1,0,0,0" ∷ "request=2,0,0,0" ∷ []) ("of=1,0,0" ∷ "of=2,1,0" ∷ []))
+    ∷ case programsABC
+    ("arrive=1,0,0,0" ∷ "arrive=2,1,0,0" ∷ "turn=1" ∷ "turn=2" ∷ "turn=2" ∷ "arrive=3,1,0,0" ∷ "turn=3" ∷ "turn=3" ∷ "turn=3" ∷ []) 65535 65535
+    (texts ("request=1,0,0,0" ∷ "request=2,1,0,0" ∷ "request=3,1,0,0" ∷ "response=3,0,1" ∷ [])
+    ("of=1,0,1" ∷ "of=2,1,2" ∷ "of=3,2,2"
+    ∷ "log=0,1,1,7,0,1" ∷ "log=0,2,2,6,0,1" ∷ "log=0,3,2,6,0,1" ∷ "log=1,2,1,7,0,1" ∷ "log=1,3,1,7,0,1" ∷ []))
     -- a register and a store, read before and behind a write
     ∷ case ("program=0" ∷ "do=6,2,0,0" ∷ "do=7,0,1,0" ∷ "do=6,2,0,0" ∷ "do=8,3,8,0" ∷ "do=9,8,0,1" ∷ "do=8,3,8,0" ∷ "do=0,3,0,0" ∷ [])
     ("arrive=1,0,7,42" ∷ times 7 "turn=1" []) 65535 65535
@@ -158,7 +164,8 @@ unfolding recordOf batchRecorded readPrograms readSchedule readText readLines ad
     traceText reportText linesText eventText ofText entryText lineText numbersText separatorOf decimal digitsIn
 last-instruction = refl
 
-still-open : results ("arrive=1,0,0,0" ∷ times 128 "turn=1" []) ≡ recordedAs 15 1 0 0
+-- without that turn it is left open behind its last instruction
+still-open : results ("arrive=1,0,0,0" ∷ times 128 "turn=1" []) ≡ recordedAs 0 0 16 2207
 unfolding recordOf batchRecorded readPrograms readSchedule readText readLines addLine lineOf fieldsOf fieldOf prefix numberOf digitsOf pushOf
     parts onto within addProgram addDo addArrive addTurn go effectAs upd
     traceText reportText linesText eventText ofText entryText lineText numbersText separatorOf decimal digitsIn
@@ -181,7 +188,7 @@ unfolding recordOf batchRecorded readPrograms readSchedule readText readLines ad
     traceText reportText linesText eventText ofText entryText lineText numbersText separatorOf decimal digitsIn
 one-too-many = refl
 
-enough : results (nine (turnsOf8 [])) ≡ recordedAs 15 1 0 0
+enough : results (nine (turnsOf8 [])) ≡ recordedAs 0 0 144 17665
 unfolding recordOf batchRecorded readPrograms readSchedule readText readLines addLine lineOf fieldsOf fieldOf prefix numberOf digitsOf pushOf
     parts onto within addProgram addDo addArrive addTurn go effectAs upd
     traceText reportText linesText eventText ofText entryText lineText numbersText separatorOf decimal digitsIn

@@ -1,5 +1,4 @@
--- The reference host on texts: its checks in the order of the scope (1, 2, 13, then 14 line by line, 15, 16), what it writes, and its
--- result.
+-- The reference host on texts: its checks in the order of the scope (1, 2, 13, then 14 line by line, 16), what it writes, and its result.
 use Prim.Native.Nat.{ℕ}
 use mathlib.Core.Bool.{_||_}
 use mathlib.Core.List.{List, [], _∷_, _++_}
@@ -23,7 +22,7 @@ use Rattle.machine.specs.Instance.{machineOf}
 use Rattle.machine.specs.Objects.{Content, atStart}
 use Rattle.host.specs.declared.Recorded.{Recorded}
 
--- Rows 14 and 15: the run of a schedule from contents at the start, which makes a batch. It has at most as many operations as a report has room for.
+-- Row 14: the run of a schedule from contents at the start, which makes a batch. It has at most as many operations as a report has room for.
 abbrev pub runOf : (opening : ℕ → Content) → List Program → List Move → Result Batch
 runOf opening table moves = recorded (machineOf table) (known table) mostEntries mostObjects opening moves
 

@@ -22,7 +22,7 @@ pub record Ran (programs schedule : List ℕ) (batch : Batch) : Type 0 where
   pub rules : row2 table ≡ none
   pub moves : List Move
   pub movesRead : readSchedule schedule ≡ readable moves
-  -- rows 14 and 15
+  -- row 14
   pub run : runOf atStart table moves ≡ made batch
 
 pub record Records (programs schedule : List ℕ) (roomForTrace roomForReport : ℕ) : Type 0 where

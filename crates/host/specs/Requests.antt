@@ -1,6 +1,6 @@
 -- The requests of a run as they stand in arrays: a slot for each rid, and for each slot a row of numbers. What private functions promise.
 use Prim.Native.Nat.{ℕ, zero, suc}
-use mathlib.Core.Bool.{Bool, true, false, cond, not}
+use mathlib.Core.Bool.{Bool, cond, not}
 use mathlib.Core.List.{List, [], _∷_}
 use lib.Dec.{eqb, ltb}
 use lib.ListN.{getD}
@@ -31,8 +31,3 @@ standingRow s v = cond (isOpenIn v) (Open s) Idle
 unfoldable pub standingIn : (states : List ℕ) → ℕ → Standing
 standingIn states zero = Missing
 standingIn states (suc s) = cond (ltb s mostRequests) (standingRow s (row 12 states s)) Missing
-
-abbrev pub waitsIn : Standing → Bool
-waitsIn Missing = false
-waitsIn Idle = false
-waitsIn (Open s) = true

@@ -1,6 +1,6 @@
 -- The run of a schedule in arrays, and the model's host whose state the arrays hold. What private functions promise.
-use Prim.Native.Nat.{ℕ, zero, suc, _+_, _%_, _≤_, _<_, _*_}
-use mathlib.Core.Bool.{Bool, false, cond}
+use Prim.Native.Nat.{ℕ, zero, suc, _+_, _≤_, _<_, _*_}
+use mathlib.Core.Bool.{cond}
 use mathlib.Core.List.{List, [], _∷_}
 use mathlib.Core.Path.{_≡_}
 use lib.ListN.{length, getD, replicate}
@@ -27,16 +27,11 @@ use Rattle.machine.specs.Held.{Objects, ObjectsHeld}
 use Rattle.machine.specs.Objects.{Content}
 use Rattle.host.specs.Memory.{Memory}
 use Rattle.host.specs.Recorded.{runOf, Texts, textsOf, fitted}
-use Rattle.host.specs.Requests.{isOpenIn, progressIn, localsIn, waitsIn, standingIn}
+use Rattle.host.specs.Requests.{isOpenIn, progressIn, localsIn}
 use Rattle.host.specs.Steps.{linesOf}
 use Rattle.host.specs.declared.runs.Run.the-variants.{Breaks, Ends}
 use Rattle.host.specs.declared.runs.Run.{Run}
 use Rattle.host.specs.declared.steps.Counts.{Counts}
-
--- ── row 15 on the arrays ──
-abbrev pub leftOpen : (slots states : List ℕ) → List Move → Move → Bool
-leftOpen slots states past (Arrive r prog a b) = waitsIn (standingIn states (getD slots (r % mostRids) 0))
-leftOpen slots states past (Turn r) = false
 
 -- ── a request as the arrays have it: all of the model's phase but the path ──
 pub data Seen : Type 0 where
@@ -112,7 +107,7 @@ ranFrom table line ms h = runFrom (M table) (known table) mostEntries line ms h
 abbrev pub ran : (opening : ℕ → Content) (table : List Program) → List Move → Result (Host (M table))
 ran opening table ms = ranFrom table 1 ms (empty (M table) opening)
 
--- rows 14 to 16
+-- rows 14 and 16
 abbrev pub recordedMoves : (opening : ℕ → Content) → List Program → List Move → (roomForTrace roomForReport : ℕ) → Result Texts
 recordedMoves opening table ms m n = andThen (runOf opening table ms) (λ b. fitted m n (textsOf b))
 

@@ -7,7 +7,6 @@ use crate::outputs::refused;
 use crate::outputs::write_texts;
 use crate::programs::lay_out;
 use crate::runs::Run;
-use crate::runs::row_15;
 use crate::runs::run_moves;
 use cells::BUCKETS;
 use cells::CELL_ROWS;
@@ -32,7 +31,7 @@ ghost use Rattle.host.specs.Recorded.{recordOf, RecordIs};
 ghost use Rattle.host.specs.Tables.{programsOf};
 ghost use Rattle.host.specs.Runs.{movesIn, Scheduled, recordedMoves};
 
-// Rows 14 to 16, of `programs` programs and a schedule of n lines that were read.
+// Rows 14 and 16, of `programs` programs and a schedule of n lines that were read.
 fn record_moves(
     table: &[[[u64; 4]; INSTRUCTIONS]; PROGRAMS],
     programs: usize,
@@ -76,12 +75,6 @@ fn record_moves(
             return refused(14, line);
         }
         Run::Ends(c) => {
-            match row_15(moves, arrivals, n, &slots, &states) {
-                Ruling::Broken(line) => {
-                    return refused(15, line);
-                }
-                Ruling::Kept => {}
-            }
             let mut sorted = [0u64; ENTRY_ROWS];
             let k = by_object(&logs, c.operations, &mut sorted);
             return write_texts(

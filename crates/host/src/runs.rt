@@ -1,4 +1,4 @@
-// Rows 14 and 15: the run of a schedule, line by line, and the requests that it leaves open.
+// Row 14: the run of a schedule, line by line.
 use crate::limits::RID_SLOTS;
 use crate::limits::STATE_ROWS;
 use crate::requests::Standing;
@@ -10,7 +10,6 @@ use crate::steps::turn;
 use cells::BUCKETS;
 use cells::CELL_ROWS;
 use machine::REGISTERS;
-use machine::Ruling;
 use text::ARRIVAL_ROWS;
 use text::ENTRY_ROWS;
 use text::EVENT_ROWS;
@@ -20,20 +19,10 @@ use text::Move;
 use text::OF_ROWS;
 use text::PROGRAMS;
 use text::move_at;
-ghost use mathlib.Core.Path.{_≡_};
-ghost use mathlib.Core.List.{[]};
-ghost use Prim.Native.Nat.{_%_};
-ghost use lib.ListN.{length, getD};
-ghost use Rattle.basics.specs.Firsts.{firsts};
-ghost use Rattle.text.specs.Formats.{mostRids};
-ghost use Rattle.text.specs.Held.{moveAt, mostMoves};
-ghost use Rattle.model.specs.FirstBad.{firstBad};
-ghost use Rattle.machine.specs.Rules.{brokenLine};
-ghost use Rattle.host.specs.Requests.{waitsIn, standingIn};
 ghost use Rattle.host.specs.Tables.{programsOf};
 ghost use Rattle.machine.specs.Held.{objects};
 ghost use Rattle.host.specs.Memory.{memory};
-ghost use Rattle.host.specs.Runs.{Ready, RunsFrom, leftOpen};
+ghost use Rattle.host.specs.Runs.{Ready, RunsFrom};
 
 // A schedule that was run: the line that breaks row 14, or what there is at the end.
 pub enum Run {
@@ -115,44 +104,4 @@ pub(crate) fn run_moves(
         }
     }
     Run::Ends(c)
-}
-
-// Whether the request of a rid is open.
-fn waits(slots: &[u8; RID_SLOTS], states: &[u64; STATE_ROWS], rid: u64) -> bool
-    ensures { λ r. ⌜ r ≡ waitsIn (standingIn (now (states .entry)) (getD (now (slots .entry)) (rid % mostRids) 0)) ⌝ }
-{
-    match standing_of(slots, states, rid) {
-        Standing::Missing => false,
-        Standing::Idle => false,
-        Standing::Open(_) => true,
-    }
-}
-
-// Row 15: the first arrival whose request is left open.
-pub(crate) fn row_15(
-    moves: &[u32; MOVES],
-    arrivals: &[u64; ARRIVAL_ROWS],
-    n: usize,
-    slots: &[u8; RID_SLOTS],
-    states: &[u64; STATE_ROWS],
-) -> Ruling
-    requires { ⌜ length (now moves) ≡ mostMoves ⌝ }
-    ensures { λ r. ⌜ brokenLine r ≡ firstBad (leftOpen (now (slots .entry)) (now (states .entry))) 1 []
-        (firsts (moveAt (now (moves .entry)) (now (arrivals .entry))) n) ⌝ }
-{
-    let mut i: usize = 0;
-    while i < n {
-        match move_at(moves, arrivals, i) {
-            Move::Arrive { rid, .. } => {
-                if waits(slots, states, rid) {
-                    return Ruling::Broken(i + 1);
-                }
-                i += 1;
-            }
-            Move::Turn { .. } => {
-                i += 1;
-            }
-        }
-    }
-    Ruling::Kept
 }

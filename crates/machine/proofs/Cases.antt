@@ -176,7 +176,7 @@ shows :
     ≡ oper 1 6 0 5 ∷ oper 1 7 0 4 ∷ oper 8 8 2 5 ∷ oper 8 9 2 7 ∷ []
 shows = refl
 
--- ── the plain run of case C ──
+-- ── the plain run of case C's programs ──
 abbrev programsC : List Program
 programsC =
     program 0 (instr 1 2 1 0 ∷ instr 7 0 2 0 ∷ instr 6 0 1 0 ∷ instr 0 0 0 0 ∷ [])
@@ -200,3 +200,15 @@ logs-C :
     ∷ []
 unfolding upd go effectAs
 logs-C = refl
+
+-- the path of request 1, where it is left open before its first operation, behind it, behind its last; and where it is answered
+abbrev pathOf1 : Option (State (machineOf programsC)) → List ℕ
+pathOf1 none = []
+pathOf1 (some s) = plain.pathOf (machineOf programsC) (s .phase 1)
+
+paths :
+    map (λ order. pathOf1 (plain.run (machineOf programsC) (event (Request 1 0 0 0) ∷ order) (initial (machineOf programsC) atStart)))
+    ([] ∷ (operation 1 1 ∷ []) ∷ (operation 1 1 ∷ operation 1 2 ∷ []) ∷ (operation 1 1 ∷ operation 1 2 ∷ event (Response 1 0 0) ∷ []) ∷ [])
+    ≡ (0 ∷ []) ∷ (0 ∷ 0 ∷ 1 ∷ []) ∷ (0 ∷ 0 ∷ 1 ∷ 2 ∷ []) ∷ (0 ∷ 0 ∷ 1 ∷ 2 ∷ 3 ∷ []) ∷ []
+unfolding upd go effectAs
+paths = refl

@@ -11,9 +11,7 @@ use Rattle.text.specs.declared.schedule.Move.the-variants.{Arrive, Turn}
 use Rattle.text.specs.declared.schedule.Move.{Move}
 use Rattle.text.specs.declared.trace.Event.the-variants.{Request, Response}
 use Rattle.text.specs.declared.trace.Event.{Event}
-use Rattle.model.specs.Checks.{faultOr}
-use Rattle.model.specs.FirstBad.{firstBad}
-use Rattle.model.specs.Host.{Result, fault, made, Host, empty, Stepped, broken, on, arrive, afterOperation, turnAt, turnOf, commit, stepped, goOn, runFrom, isOpen, bad15, ofsFrom, logsFrom, batchWritten, andThen, close, recorded}
+use Rattle.model.specs.Host.{Result, fault, made, Host, empty, Stepped, broken, on, arrive, afterOperation, turnAt, turnOf, commit, stepped, goOn, runFrom, ofsFrom, logsFrom, batchWritten, andThen, recorded}
 use Rattle.model.specs.Machine.{Next, op, stop, Machine}
 use Rattle.model.specs.PlainRun.{Phase, absent, opened, closed, State, answerNow, operated, operationsOf}
 use Rattle.machine.specs.Instance.{Process, nextOf, resumedWith, machineBy}
@@ -54,19 +52,10 @@ module _ (gone gone′ : Process → Advanced) where
       by q false = refl
 
   -- ── what is written of a state is the same ──
-  open-same : (x : Phase M) → isOpen M x ≡ isOpen N (phase x)
-  open-same absent = refl
-  open-same (opened p k) = refl
-  open-same (closed w n) = refl
-
   operations-same : (x : Phase M) → operationsOf M x ≡ operationsOf N (phase x)
   operations-same absent = refl
   operations-same (opened p k) = refl
   operations-same (closed w n) = refl
-
-  bad15-same : (s : State M) (past : List Move) (m : Move) → bad15 M s past m ≡ bad15 N (state s) past m
-  bad15-same s past (Arrive r prog a b) = open-same (s .phase r)
-  bad15-same s past (Turn r) = refl
 
   ofs-same : (f : ℕ → Phase M) (n : ℕ) (es : List Event) → ofsFrom M f n es ≡ ofsFrom N (λ r. phase (f r)) n es
   ofs-same f n [] = refl
@@ -189,13 +178,12 @@ module _ (gone gone′ : Process → Advanced) where
             let e = ofs-same (h .state .phase) 0 (h .trace) in
             λ i. record { trace = h .trace; ofs = e i; log = logsFrom (h .state .logs) 0 objects }
 
-        closes : (x : Result (Host M)) → andThen x (close M objects ms) ≡ andThen (result x) (close N objects ms)
-        closes (fault number line) = refl
-        closes (made h) =
-            let bad : bad15 M (h .state) ≡ bad15 N (host h .state) = fun-ext λ past. fun-ext λ m. bad15-same (h .state) past m in
-            λ i. faultOr fault 15 (firstBad (bad i) 1 [] ms) (made (batch-same h i))
+        written : (x : Result (Host M)) →
+            andThen x (λ h. made (batchWritten M objects h)) ≡ andThen (result x) (λ h. made (batchWritten N objects h))
+        written (fault number line) = refl
+        written (made h) = ap made (batch-same h)
 
         pub recorded-same : (opening : ℕ → Content) → recorded M known limit objects opening ms ≡ recorded N known limit objects opening ms
         recorded-same opening =
-            closes (runFrom M known limit 1 ms (empty M opening))
-            ∙ ap (λ x. andThen x (close N objects ms)) (runs 1 ms (empty M opening) (λ r. tt))
+            written (runFrom M known limit 1 ms (empty M opening))
+            ∙ ap (λ x. andThen x (λ h. made (batchWritten N objects h))) (runs 1 ms (empty M opening) (λ r. tt))

@@ -13,7 +13,7 @@ use Rattle.text.specs.Report.{Report}
 use Rattle.text.specs.Text.{readable}
 use Rattle.text.specs.declared.trace.Event.{Event}
 use Rattle.model.specs.Audit.{leftOver, replayChecks, from9, from4, audit}
-use Rattle.model.specs.Requests.{row4, row4Open, row6}
+use Rattle.model.specs.Requests.{row4, row6}
 use Rattle.model.specs.Claims.{row7, row8, NoneTo8}
 use Rattle.model.specs.Batch.{batchOf, Batch, Node}
 use Rattle.model.specs.Checks.{verdict, Check, check, firstFault}
@@ -53,10 +53,9 @@ module _ (M : Machine) (opening : ℕ → M .Content) (known : ℕ → Bool) (b 
   past-8 : NoneTo8 known b → firstFault (from9 M opening b) ≡ audit M opening known b
   unfolding audit
   past-8 h =
-      passes verdict 8 (row8 b) _ (h .4)
-      ∙ passes verdict 7 (row7 b) _ (h .3)
-      ∙ passes verdict 6 (row6 b) _ (h .2)
-      ∙ passes verdict 4 (row4Open (b .trace)) _ (h .1)
+      passes verdict 8 (row8 b) _ (h .3)
+      ∙ passes verdict 7 (row7 b) _ (h .2)
+      ∙ passes verdict 6 (row6 b) _ (h .1)
       ∙ passes verdict 4 (row4 known (b .trace)) _ (h .0)
 
   none-to-8 : (n : ℕ) → eqb 4 n ≡ false → eqb 6 n ≡ false → eqb 7 n ≡ false → eqb 8 n ≡ false → audit M opening known b .number ≡ n →
@@ -64,17 +63,15 @@ module _ (M : Machine) (opening : ℕ → M .Content) (known : ℕ → Bool) (b 
   unfolding audit
   none-to-8 n d f g h e =
       let e4 = passed 4 (row4 known (b .trace)) _ n d e in
-      let e4-open = passed 4 (row4Open (b .trace)) _ n d (e4 .1) in
-      let e6 = passed 6 (row6 b) _ n f (e4-open .1) in
+      let e6 = passed 6 (row6 b) _ n f (e4 .1) in
       let e7 = passed 7 (row7 b) _ n g (e6 .1) in
       let e8 = passed 8 (row8 b) _ n h (e7 .1) in
-      ((e4 .0, e4-open .0, e6 .0, e7 .0, e8 .0), e8 .1)
+      ((e4 .0, e6 .0, e7 .0, e8 .0), e8 .1)
 
   -- ── verdict 0 ──
   -- what verdict 0 leaves of the rows
   pub record Accepted : Type 0 where
     pub lines4 : row4 known (b .trace) ≡ none
-    pub answered4 : row4Open (b .trace) ≡ none
     pub ofs6 : row6 b ≡ none
     pub passes : Passes M opening b
 
@@ -88,15 +85,14 @@ module _ (M : Machine) (opening : ℕ → M .Content) (known : ℕ → Bool) (b 
       let c = no-fault 0 (from9 M opening b) (refl, replay-rows 0 refl refl refl 1 (b .ofs)) (r .1) .0 in
       record {
         lines4 = n .0;
-        answered4 = n .1;
-        ofs6 = n .2;
-        passes = rows-passes M opening b .0 (n .3, n .4, c .0, c .1);
+        ofs6 = n .1;
+        passes = rows-passes M opening b .0 (n .2, n .3, c .0, c .1);
       }
 
   accepted-audit : Accepted → audit M opening known b ≡ verdict 0 0
   accepted-audit h =
       let r = rows-passes M opening b .1 (h .passes) in
-      sym (past-8 (h .lines4, h .answered4, h .ofs6, r .0, r .1))
+      sym (past-8 (h .lines4, h .ofs6, r .0, r .1))
       ∙ ap firstFault (sym (append-nil (from9 M opening b)))
       ∙ clear-fault (from9 M opening b) [] (r .2, r .3)
 
@@ -113,7 +109,6 @@ module _ (M : Machine) (opening : ℕ → M .Content) (known : ℕ → Bool) (b 
         let h = audit-accepted .0 e in
         record {
           lines4 = h .lines4;
-          answered4 = h .answered4;
           ofs6 = h .ofs6;
           allowed = sound M opening b (accepted-formed h) (h .passes);
         },
@@ -121,7 +116,6 @@ module _ (M : Machine) (opening : ℕ → M .Content) (known : ℕ → Bool) (b 
         let f = rows-formed known b (d .lines4) (d .ofs6) in
         audit-accepted .1 (record {
           lines4 = d .lines4;
-          answered4 = d .answered4;
           ofs6 = d .ofs6;
           passes = complete M opening b f (d .allowed);
         }),
@@ -159,7 +153,7 @@ module _ (M : Machine) (opening : ℕ → M .Content) (known : ℕ → Bool) (b 
   )
     where
       at : NoneTo8 known b → (mergeOf b .1 ≢ []) ↔ P
-      at r = says (rows-formed known b (r .0) (r .2)) (rows-reported b .0 (r .3, r .4))
+      at r = says (rows-formed known b (r .0) (r .1)) (rows-reported b .0 (r .2, r .3))
 
   pub audit-nine : (audit M opening known b ≡ verdict 9 0) ↔ (NoneTo8 known b × Returns b)
   audit-nine = audit-nine-by (merge-returns b)

@@ -59,9 +59,16 @@ ofsC = of 1 0 2 ∷ of 2 1 2 ∷ []
 abbrev logC : List Entry
 logC = log 0 1 1 7 0 1 ∷ log 0 2 2 6 0 0 ∷ log 1 2 1 7 0 1 ∷ log 1 1 2 6 0 0 ∷ []
 
--- one request of program 0
+-- C's with the lines of object 0 exchanged
+abbrev logA : List Entry
+logA = log 0 2 2 6 0 0 ∷ log 0 1 1 7 0 1 ∷ log 1 2 1 7 0 1 ∷ log 1 1 2 6 0 0 ∷ []
+
+-- one request of program 0, answered and not
 abbrev single : List Event
 single = Request 1 0 0 0 ∷ Response 1 0 0 ∷ []
+
+abbrev leftOpen : List Event
+leftOpen = Request 1 0 0 0 ∷ []
 
 -- ── the audit ──
 abbrev audits : List (Batch × Verdict)
@@ -69,12 +76,11 @@ audits =
     -- all texts empty; C
     (batch [] [] [], verdict 0 0)
     ∷ (batch (traceC 1 1) ofsC logC, verdict 0 0)
-    -- response with no open request; rid used twice; unknown program; line faults first, then the earliest request never answered
+    -- response with no open request; rid used twice, though it is open; unknown program; answered twice
     ∷ (batch (Response 1 0 0 ∷ []) [] [], verdict 4 1)
     ∷ (batch (Request 1 0 0 0 ∷ Request 2 0 0 0 ∷ Request 2 0 0 0 ∷ []) [] [], verdict 4 3)
     ∷ (batch (Request 1 2 0 0 ∷ Response 1 0 0 ∷ []) [] [], verdict 4 1)
     ∷ (batch (Request 1 0 0 0 ∷ Response 1 0 0 ∷ Response 1 0 0 ∷ []) [] [], verdict 4 3)
-    ∷ (batch (Request 1 0 0 0 ∷ Request 2 0 0 0 ∷ Response 1 0 0 ∷ []) [] [], verdict 4 2)
     -- `of` lines: one missing, one too many, one of another request
     ∷ (batch single [] [], verdict 6 1)
     ∷ (batch single (of 1 0 0 ∷ of 2 1 0 ∷ []) [], verdict 6 2)
@@ -88,11 +94,7 @@ audits =
     ∷ (batch single (of 1 0 1 ∷ []) [], verdict 8 1)
     -- B; A
     ∷ (batch (traceC 0 0) ofsC (log 0 2 2 6 0 0 ∷ log 0 1 1 7 0 1 ∷ log 1 1 2 6 0 0 ∷ log 1 2 1 7 0 1 ∷ []), verdict 9 0)
-    ∷ (
-      batch (Request 1 0 0 0 ∷ Response 1 0 1 ∷ Request 2 1 0 0 ∷ Response 2 0 0 ∷ []) ofsC
-          (log 0 2 2 6 0 0 ∷ log 0 1 1 7 0 1 ∷ log 1 2 1 7 0 1 ∷ log 1 1 2 6 0 0 ∷ []),
-      verdict 9 0,
-    )
+    ∷ (batch (Request 1 0 0 0 ∷ Response 1 0 1 ∷ Request 2 1 0 0 ∷ Response 2 0 0 ∷ []) ofsC logA, verdict 9 0)
     -- C, first log value 2; a count too small and too large
     ∷ (batch (traceC 1 1) ofsC (log 0 1 1 7 0 2 ∷ log 0 2 2 6 0 0 ∷ log 1 2 1 7 0 1 ∷ log 1 1 2 6 0 0 ∷ []), verdict 10 1)
     ∷ (batch single (of 1 0 1 ∷ []) (log 0 1 1 7 0 1 ∷ []), verdict 10 1)
@@ -100,6 +102,22 @@ audits =
     -- C, second response 5; C, both requests in one group
     ∷ (batch (traceC 1 5) ofsC logC, verdict 11 2)
     ∷ (batch (traceC 1 1) (of 1 0 2 ∷ of 2 0 2 ∷ []) logC, verdict 12 2)
+    -- a request left open: before its first operation, behind it, behind its last; A with request 1 left open
+    ∷ (batch leftOpen (of 1 0 0 ∷ []) [], verdict 0 0)
+    ∷ (batch leftOpen (of 1 0 1 ∷ []) (log 0 1 1 7 0 1 ∷ []), verdict 0 0)
+    ∷ (batch leftOpen (of 1 0 2 ∷ []) (log 0 1 1 7 0 1 ∷ log 1 1 2 6 0 0 ∷ []), verdict 0 0)
+    ∷ (batch (Request 1 0 0 0 ∷ Request 2 1 0 0 ∷ Response 2 0 0 ∷ []) ofsC logA, verdict 0 0)
+    -- an operation of it differs; its program has fewer than its count
+    ∷ (batch leftOpen (of 1 0 1 ∷ []) (log 0 1 1 7 0 2 ∷ []), verdict 10 1)
+    ∷ (batch leftOpen (of 1 0 3 ∷ []) (log 0 1 1 7 0 1 ∷ log 1 1 2 6 0 0 ∷ log 1 1 3 6 0 0 ∷ []), verdict 10 1)
+    -- in a group: two of one program, of two programs, with a request that was answered
+    ∷ (batch (Request 1 0 0 0 ∷ Request 2 0 0 0 ∷ []) (of 1 0 0 ∷ of 2 0 0 ∷ []) [], verdict 0 0)
+    ∷ (batch (Request 1 0 0 0 ∷ Request 2 1 0 0 ∷ []) (of 1 0 0 ∷ of 2 0 0 ∷ []) [], verdict 12 2)
+    ∷ (
+      batch (Request 1 0 0 0 ∷ Response 1 0 0 ∷ Request 2 0 0 0 ∷ []) (of 1 0 2 ∷ of 2 0 2 ∷ [])
+          (log 0 1 1 7 0 1 ∷ log 0 2 1 7 0 1 ∷ log 1 1 2 6 0 0 ∷ log 1 2 2 6 0 0 ∷ []),
+      verdict 12 2,
+    )
     ∷ []
 
 audits-come-out : map (λ c. audit M zeros known (c .0)) audits ≡ map (λ c. c .1) audits
@@ -126,9 +144,16 @@ records =
     ∷ (Turn 1 ∷ [], 1024, fault 14 1)
     ∷ (Arrive 1 0 0 0 ∷ Turn 1 ∷ Arrive 1 0 0 0 ∷ [], 1024, fault 14 3)
     ∷ (Arrive 1 2 0 0 ∷ [], 1024, fault 14 1)
-    -- a request left open: the first that arrived
-    ∷ (Arrive 1 0 0 0 ∷ [], 1024, fault 15 1)
-    ∷ (Arrive 1 0 0 0 ∷ Turn 1 ∷ Turn 1 ∷ Turn 1 ∷ Arrive 3 1 0 0 ∷ Arrive 2 1 0 0 ∷ [], 1024, fault 15 5)
+    -- requests left open: before the first operation, behind one
+    ∷ (Arrive 1 0 0 0 ∷ [], 1024, made (batch (Request 1 0 0 0 ∷ []) (of 1 0 0 ∷ []) []))
+    ∷ (
+      Arrive 1 0 0 0 ∷ Arrive 3 1 0 0 ∷ Turn 1 ∷ Arrive 2 1 0 0 ∷ Turn 3 ∷ Turn 1 ∷ Turn 1 ∷ [],
+      1024,
+      made (batch
+          (Request 1 0 0 0 ∷ Request 3 1 0 0 ∷ Request 2 1 0 0 ∷ Response 1 0 1 ∷ [])
+          (of 1 0 2 ∷ of 3 1 1 ∷ of 2 2 0 ∷ [])
+          (log 0 1 1 7 0 1 ∷ log 1 3 1 7 0 1 ∷ log 1 1 2 6 0 0 ∷ [])),
+    )
     -- a turn after the response does nothing
     ∷ (
       Arrive 1 0 0 0 ∷ Turn 1 ∷ Turn 1 ∷ Turn 1 ∷ Turn 1 ∷ [],

@@ -1,26 +1,22 @@
 -- Demand 3 for the host: what it writes without a fault is accepted by the audit.
-use mathlib.Core.Bool.{Bool, true, false}
-use mathlib.Core.List.{List, [], _∷_, _++_}
-use mathlib.Core.Logic.{_⊎_, inl, inr, ⊎-elim}
-use mathlib.Core.Option.{Option, none, some}
-use mathlib.Core.Path.{_≡_, refl, sym, ap, subst, _∙_}
+use mathlib.Core.Bool.{Bool, true}
+use mathlib.Core.List.{List, [], _∷_}
+use mathlib.Core.Path.{_≡_, refl, ap, subst, _∙_}
 use Prim.Native.Nat.{ℕ, suc, _≤_, _<_}
 use borrow.Author.Tests.{ltb-true}
-use lib.Dec.{eqb, ltb}
+use lib.Dec.{ltb}
 use lib.ListN.{length}
 use native.Mathlib.Omega.{arith}
 use Rattle.basics.specs.Lists.{All}
 use Rattle.basics.proofs.Lists.{all-any}
-use Rattle.basics.proofs.Tests.{clash, byBool, eqb-self, yes-eqb}
+use Rattle.basics.proofs.Tests.{clash, byBool}
 use Rattle.text.specs.declared.report.Op.{Op}
 use Rattle.text.specs.declared.schedule.Move.the-variants.{Arrive, Turn}
 use Rattle.text.specs.declared.schedule.Move.{Move}
-use Rattle.text.specs.declared.trace.Event.the-variants.{Request, Response}
-use Rattle.text.specs.declared.trace.Event.{Event}
 use Rattle.model.specs.Audit.{audit}
-use Rattle.model.specs.Batch.{Batch, requested, answered}
+use Rattle.model.specs.Batch.{Batch}
 use Rattle.model.specs.Bounds.{Within}
-use Rattle.model.specs.Checks.{verdict, faultOr}
+use Rattle.model.specs.Checks.{verdict}
 use Rattle.model.specs.Demand.{Demand3}
 use Rattle.model.specs.Host.{
   Result,
@@ -42,21 +38,14 @@ use Rattle.model.specs.Host.{
   stepped,
   goOn,
   runFrom,
-  isOpen,
-  bad15,
-  row15,
   batchWritten,
-  close,
   andThen,
   recorded,
 }
 use Rattle.model.specs.Machine.{Next, op, stop, Machine}
-use Rattle.model.specs.PlainRun.{Phase, absent, opened, closed, State, lineNow, operated, replied}
+use Rattle.model.specs.PlainRun.{Phase, absent, opened, closed, lineNow, operated, replied}
 use Rattle.model.proofs.Audited.{audit-demand}
 use Rattle.model.proofs.Faithful.{
-  requested-append,
-  hasArrived,
-  isClosed,
   Faithful,
   faithful-empty,
   faithful-arrive,
@@ -65,17 +54,7 @@ use Rattle.model.proofs.Faithful.{
   faithful-allowed,
 }
 use Rattle.model.proofs.Report.{no-logs, one-longer, ofs-matching}
-use Rattle.model.proofs.Scans.{Clean, scan-clean}
-use Rattle.model.proofs.Trace.{AnsweredIn, row4-order, row4-answered, row6-matching}
-
-requested-some : (q : ℕ) (es fs : List Event) → requested q (es ++ fs) ≡ true → (requested q es ≡ true) ⊎ (requested q fs ≡ true)
-requested-some q es fs e = byBool (requested q es) inl (λ d. inr (rw d at (sym (requested-append q es fs) ∙ e)))
-
-all-answered : (trace es : List Event) → ((r : ℕ) → requested r es ≡ true → answered r trace ≡ true) → All (AnsweredIn trace) es
-all-answered trace [] h = tt
-all-answered trace (Request r prog a b ∷ es) h =
-    (h r (rw (eqb-self r)), all-answered trace es (λ q e. h q (byBool (eqb r q) (λ d. rw d) (λ d. rw (d, e)))))
-all-answered trace (Response r s v ∷ es) h = (tt, all-answered trace es h)
+use Rattle.model.proofs.Trace.{row4-order, row6-matching}
 
 module _ (M : Machine) (known : ℕ → Bool) (limit : ℕ) where
   open Machine M using (Process, Content, advance)
@@ -132,56 +111,26 @@ module _ (M : Machine) (known : ℕ → Bool) (limit : ℕ) where
       let g = goes-on n (stepped M known limit h m) (runFrom M known limit (suc n) ms) t e in
       run-keeps I P k ms (a .1) (suc n) (g .0) t (k h (g .0) m ms (a .0) (did h (g .0) m (g .1)) i) (g .2)
 
-  -- a batch that is written is that of the host behind the whole schedule, with no request open
+  -- a batch that is written is that of the host behind the whole schedule
   pub record Wrote (objects : ℕ) (opening : ℕ → Content) (ms : List Move) (b : Batch) : Type 0 where
     pub host : Host M
     pub ran : runFrom M known limit 1 ms (empty M opening) ≡ made host
-    pub closed15 : row15 M (host .state) ms ≡ none
     pub batch : batchWritten M objects host ≡ b
 
   pub recorded-wrote : (objects : ℕ) (opening : ℕ → Content) (ms : List Move) (b : Batch) →
       recorded M known limit objects opening ms ≡ made b → Wrote objects opening ms b
   recorded-wrote objects opening ms b e = at (runFrom M known limit 1 ms (empty M opening)) refl e
     where
-      closing : (h : Host M) → runFrom M known limit 1 ms (empty M opening) ≡ made h → (o : Option ℕ) → row15 M (h .state) ms ≡ o →
-          faultOr fault 15 o (made (batchWritten M objects h)) ≡ made b → Wrote objects opening ms b
-      closing h d none l c = record { host = h; ran = d; closed15 = l; batch = cc }
-      closing h d (some n) l c = clash (cc)
-
-      at : (x : Result (Host M)) → runFrom M known limit 1 ms (empty M opening) ≡ x → andThen x (close M objects ms) ≡ made b →
-          Wrote objects opening ms b
+      at : (x : Result (Host M)) → runFrom M known limit 1 ms (empty M opening) ≡ x →
+          andThen x (λ h. made (batchWritten M objects h)) ≡ made b → Wrote objects opening ms b
       at (fault number line) d c = clash (cc)
-      at (made h) d c = closing h d (row15 M (h .state) ms) refl c
+      at (made h) d c = record { host = h; ran = d; batch = cc }
 
   pub wrote-keeps : (I : List Move → Host M → Type 0) (P : Move → Type 0) →
       ((h h′ : Host M) (m : Move) (ms : List Move) → P m → Did h m h′ → I (m ∷ ms) h → I ms h′) →
       (objects : ℕ) (opening : ℕ → Content) (ms : List Move) (b : Batch) (w : Wrote objects opening ms b) → All P ms →
       I ms (empty M opening) → I [] (w .host)
   wrote-keeps I P k objects opening ms b w a i = run-keeps I P k ms a 1 (empty M opening) (w .host) i (w .ran)
-
-  -- ── no request of the trace is open where row 15 finds nothing ──
-  abbrev Shut : State M → Move → Type 0
-  Shut s (Arrive r prog a b) = isOpen M (s .phase r) ≡ false
-  Shut s (Turn r) = Unit {0}
-
-  clean15 : (s : State M) (past ms : List Move) → Clean (bad15 M s) past ms → All (Shut s) ms
-  clean15 s past [] h = tt
-  clean15 s past (Arrive r prog a b ∷ ms) h = (h .0, clean15 s (Arrive r prog a b ∷ past) ms (h .1))
-  clean15 s past (Turn r ∷ ms) h = (tt, clean15 s (Turn r ∷ past) ms (h .1))
-
-  abbrev NoneOpen : State M → List Event → Type 0
-  NoneOpen s trace = (q : ℕ) → requested q trace ≡ true → isOpen M (s .phase q) ≡ false
-
-  did-shut : (s : State M) (h h′ : Host M) (m : Move) → Shut s m → Did h m h′ → NoneOpen s (h .trace) → NoneOpen s (h′ .trace)
-  did-shut s h h′ m i (arrives-now r prog a b k e) c q d = ⊎-elim
-      (c q)
-      (λ j. byBool (eqb r q)
-      (λ n. subst (λ q. isOpen M (s .phase q) ≡ false) (yes-eqb n) i)
-      (λ n. let j′ = rw n at j in clash (cc)))
-      (requested-some q (h .trace) (Request r prog a b ∷ []) d)
-  did-shut s h h′ m i (operates r p k o e a l) c q d = c q d
-  did-shut s h h′ m i (replies r p k t v e a) c q d = ⊎-elim (c q) (λ j. clash (cc)) (requested-some q (h .trace) (Response r t v ∷ []) d)
-  did-shut s h h′ m i (rests r w n e) c q d = c q d
 
   -- ── demand 3 ──
   module _ (objects : ℕ) (within : Within M objects) (opening : ℕ → Content) where
@@ -195,16 +144,9 @@ module _ (M : Machine) (known : ℕ → Bool) (limit : ℕ) where
     did-faithful h h′ m (replies r p k t v e a) f = faithful-reply M known objects opening (h .state) (h .trace) r p k t v f e a
     did-faithful h h′ m (rests r w n e) f = f
 
-    settled : (f : Phase M) → hasArrived M f ≡ true → isOpen M f ≡ false → isClosed M f ≡ true
-    settled absent a b = clash (cc)
-    settled (opened p k) a b = clash (cc)
-    settled (closed w n) a b = refl
-
     wrote-demand : (ms : List Move) (b : Batch) → Wrote objects opening ms b → Demand3 M opening known b
     wrote-demand ms b w = subst (Demand3 M opening known) (w .batch) (record {
       lines4 = row4-order known (w .host .trace) .1 (f .inOrder, f .programs);
-      answered4 = row4-answered (w .host .trace) .1 (all-answered (w .host .trace) (w .host .trace) (λ r a.
-          f .responses r ∙ settled (w .host .state .phase r) (sym (f .arrivals r) ∙ a) (none-open r a)));
       ofs6 = row6-matching (batchWritten M objects (w .host)) .1 (ofs-matching M (w .host .state) (w .host .trace) 0);
       allowed = faithful-allowed M known objects opening (w .host .state) (w .host .trace) f;
     })
@@ -212,11 +154,6 @@ module _ (M : Machine) (known : ℕ → Bool) (limit : ℕ) where
         f : Keeps [] (w .host)
         f = wrote-keeps Keeps (λ m. Unit {0}) (λ h h′ m ms _ d. did-faithful h h′ m d) objects opening ms b w
             (all-any (λ m. Unit {0}) (λ m. tt) ms) (faithful-empty M known objects opening)
-
-        none-open : NoneOpen (w .host .state) (w .host .trace)
-        none-open = wrote-keeps (λ ms h. NoneOpen (w .host .state) (h .trace)) (Shut (w .host .state))
-            (λ h h′ m ms i d. did-shut (w .host .state) h h′ m i d) objects opening ms b w
-            (clean15 (w .host .state) [] ms (scan-clean (bad15 M (w .host .state)) 1 [] ms (w .closed15))) (λ q d. clash (cc))
 
     pub recorded-demand : (ms : List Move) (b : Batch) → recorded M known limit objects opening ms ≡ made b → Demand3 M opening known b
     recorded-demand ms b e = wrote-demand ms b (recorded-wrote objects opening ms b e)

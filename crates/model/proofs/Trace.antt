@@ -10,7 +10,7 @@ use Rattle.basics.proofs.Tests.{clash, byEq, eqb-yes, false-or, not-false}
 use Rattle.text.specs.declared.report.Of.{Of}
 use Rattle.text.specs.declared.trace.Event.the-variants.{Request, Response}
 use Rattle.text.specs.declared.trace.Event.{Event}
-use Rattle.model.specs.Requests.{bad4, row4, unanswered, row4Open, row6From, row6}
+use Rattle.model.specs.Requests.{bad4, row4, row6From, row6}
 use Rattle.model.specs.Batch.{Batch, requested, answered}
 use Rattle.model.proofs.Scans.{Clean, scan-clean, clean-scan}
 
@@ -25,11 +25,6 @@ abbrev pub KnownIn : (ℕ → Bool) → Event → Type 0
 KnownIn known (Request r prog a b) = known prog ≡ true
 KnownIn known (Response r s v) = Unit {0}
 
--- a request has its response
-abbrev pub AnsweredIn : List Event → Event → Type 0
-AnsweredIn trace (Request r prog a b) = answered r trace ≡ true
-AnsweredIn trace (Response r s v) = Unit {0}
-
 -- one `of` line for each request, in arrival order
 abbrev pub Matching : List Event → List Of → Type 0
 Matching [] [] = Unit {0}
@@ -38,7 +33,7 @@ Matching (Request r prog a b ∷ es) [] = ⊥
 Matching (Request r prog a b ∷ es) (x ∷ xs) = (x .rid ≡ r) × Matching es xs
 Matching (Response r s v ∷ es) xs = Matching es xs
 
--- what rows 4 and 6 leave, but for unknown programs and requests never answered, which the theorems on orders do not need
+-- what rows 4 and 6 leave, but for unknown programs, which the theorems on orders do not need
 pub record Formed (b : Batch) : Type 0 where
   pub inOrder : InOrder [] (b .trace)
   pub matching : Matching (b .trace) (b .ofs)
@@ -65,23 +60,6 @@ module _ (known : ℕ → Bool) where
     λ e. clean4 [] trace (scan-clean (bad4 known) 1 [] trace e),
     λ h. clean-scan (bad4 known) 1 [] trace (order4 [] trace (h .0) (h .1)),
   )
-
-clean-answered : (trace past es : List Event) → Clean (unanswered trace) past es → All (AnsweredIn trace) es
-clean-answered trace past [] h = tt
-clean-answered trace past (Request r prog a b ∷ es) h =
-    (not-false (answered r trace) (h .0), clean-answered trace (Request r prog a b ∷ past) es (h .1))
-clean-answered trace past (Response r s v ∷ es) h = (tt, clean-answered trace (Response r s v ∷ past) es (h .1))
-
-answered-clean : (trace past es : List Event) → All (AnsweredIn trace) es → Clean (unanswered trace) past es
-answered-clean trace past [] h = tt
-answered-clean trace past (Request r prog a b ∷ es) h = (rw (h .0), answered-clean trace (Request r prog a b ∷ past) es (h .1))
-answered-clean trace past (Response r s v ∷ es) h = (refl, answered-clean trace (Response r s v ∷ past) es (h .1))
-
-pub row4-answered : (trace : List Event) → (row4Open trace ≡ none) ↔ All (AnsweredIn trace) trace
-row4-answered trace = (
-  λ e. clean-answered trace [] trace (scan-clean (unanswered trace) 1 [] trace e),
-  λ h. clean-scan (unanswered trace) 1 [] trace (answered-clean trace [] trace h),
-)
 
 row6-match : (n : ℕ) (es : List Event) (xs : List Of) → row6From n es xs ≡ none → Matching es xs
 row6-match n [] [] e = tt

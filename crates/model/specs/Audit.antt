@@ -15,7 +15,7 @@ use Rattle.model.specs.Claims.{row7, row8}
 use Rattle.model.specs.Machine.{Machine}
 use Rattle.model.specs.Nodes.{mergeOf}
 use Rattle.model.specs.Replay.{Reply, silent, said, responseOf, Outcome, differs, ended, outcome}
-use Rattle.model.specs.Requests.{row4, row4Open, row6}
+use Rattle.model.specs.Requests.{row4, row6}
 
 -- Row 9: the order returns to itself, so that the merge leaves something over.
 abbrev pub leftOver : List Node → Option ℕ
@@ -82,7 +82,6 @@ module _ (M : Machine) (opening : ℕ → M .Content) where
   abbrev pub from4 : (known : ℕ → Bool) → List Event → Read Report → List Check
   from4 known trace report =
       check 4 (row4 known trace)
-      ∷ check 4 (row4Open trace)
       ∷ check 5 (badLine report)
       ∷ from6 (batchOf trace (contents noLines report))
 

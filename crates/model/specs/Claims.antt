@@ -11,7 +11,7 @@ use Rattle.text.specs.declared.report.Entry.{Entry}
 use Rattle.text.specs.declared.report.Of.{Of}
 use Rattle.model.specs.Batch.{Batch, named, countOf, claimed}
 use Rattle.model.specs.FirstBad.{firstBad}
-use Rattle.model.specs.Requests.{row4, row4Open, row6}
+use Rattle.model.specs.Requests.{row4, row6}
 
 -- Row 7: log line's rid unknown, num 0 or above count, or claimed before.
 abbrev pub bad7 : List Of → List Entry → Entry → Bool
@@ -34,5 +34,4 @@ row8 b = firstBad (bad8 (b .log)) 1 [] (b .ofs)
 
 -- no row from 4 to 8 holds
 abbrev pub NoneTo8 : (known : ℕ → Bool) → Batch → Type 0
-NoneTo8 known b =
-    (row4 known (b .trace) ≡ none) × (row4Open (b .trace) ≡ none) × (row6 b ≡ none) × (row7 b ≡ none) × (row8 b ≡ none)
+NoneTo8 known b = (row4 known (b .trace) ≡ none) × (row6 b ≡ none) × (row7 b ≡ none) × (row8 b ≡ none)

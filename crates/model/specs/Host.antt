@@ -1,7 +1,6 @@
--- The reference host on parsed schedules: rows 14 and 15, and the batch that it writes.
-use mathlib.Core.Bool.{Bool, true, false, cond}
+-- The reference host on parsed schedules: row 14, and the batch that it writes.
+use mathlib.Core.Bool.{Bool, cond}
 use mathlib.Core.List.{List, [], _∷_, _++_}
-use mathlib.Core.Option.{Option}
 use Prim.Native.Nat.{ℕ, zero, suc}
 use lib.Dec.{ltb}
 use Rattle.text.specs.declared.report.Entry.{Entry}
@@ -11,8 +10,6 @@ use Rattle.text.specs.declared.schedule.Move.{Move}
 use Rattle.text.specs.declared.trace.Event.the-variants.{Request, Response}
 use Rattle.text.specs.declared.trace.Event.{Event}
 use Rattle.model.specs.Batch.{Batch}
-use Rattle.model.specs.Checks.{faultOr}
-use Rattle.model.specs.FirstBad.{firstBad}
 use Rattle.model.specs.Machine.{Next, op, stop, Machine}
 use Rattle.model.specs.PlainRun.{State, Phase, absent, opened, closed, initial, arrived, operated, replied, operationsOf}
 
@@ -112,19 +109,6 @@ module _ (M : Machine) where
     runFrom n [] h = made h
     runFrom n (m ∷ ms) h = goOn n (stepped h m) (runFrom (suc n) ms)
 
-  -- Row 15: a request left open; the line is that of its arrival.
-  abbrev pub isOpen : Phase M → Bool
-  isOpen absent = false
-  isOpen (opened p k) = true
-  isOpen (closed w n) = false
-
-  abbrev pub bad15 : State M → List Move → Move → Bool
-  bad15 s past (Arrive r prog a b) = isOpen (s .phase r)
-  bad15 s past (Turn r) = false
-
-  abbrev pub row15 : State M → List Move → Option ℕ
-  row15 s ms = firstBad (bad15 s) 1 [] ms
-
   -- ── what is written ──
   -- `of` lines in arrival order, with groups n, n + 1 and so on
   abbrev pub ofsFrom : (ℕ → Phase M) → ℕ → List Event → List Of
@@ -141,10 +125,6 @@ module _ (M : Machine) where
     log = logsFrom (h .state .logs) 0 objects;
   }
 
-  -- a run to its end is written, unless row 15 holds
-  abbrev pub close : (objects : ℕ) → List Move → Host → Result Batch
-  close objects ms h = faultOr fault 15 (row15 (h .state) ms) (made (batchWritten objects h))
-
-  -- the run of a schedule, and the batch that it writes
+  -- the run of a schedule, and the batch that it writes; a request may be left open
   abbrev pub recorded : (known : ℕ → Bool) (mostOperations objects : ℕ) → (ℕ → Content) → List Move → Result Batch
-  recorded known mostOperations objects opening ms = andThen (runFrom known mostOperations 1 ms (empty opening)) (close objects ms)
+  recorded known mostOperations objects opening ms = andThen (runFrom known mostOperations 1 ms (empty opening)) (λ h. made (batchWritten objects h))

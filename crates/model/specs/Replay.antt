@@ -53,7 +53,7 @@ module _ (M : Machine) where
   compare o unclaimed = wrong
   compare o (by l c) = cond (sameOp (l .op) (shown M o (apply o c .0))) (right (apply o c .0)) wrong
 
-  -- the end of a request that has done all the operations that its count allows
+  -- the end of a request that has done all the operations that its count allows; one left open stops right behind them
   abbrev pub finish : Reply → Process → Next → Outcome
   finish silent p x = ended silent (pathSoFar p)
   finish (said s v) p (op o) = differs

@@ -1,6 +1,6 @@
--- The requests of a batch, rows 4 and 6: each has one rid, a program that there is and one response behind it, and its `of` line stands at
--- its place.
-use mathlib.Core.Bool.{Bool, false, cond, _||_, not}
+-- The requests of a batch, rows 4 and 6: each has one rid, a program that there is and at most one response, behind it, and its `of` line
+-- stands at its place.
+use mathlib.Core.Bool.{Bool, cond, _||_, not}
 use mathlib.Core.List.{List, [], _∷_}
 use mathlib.Core.Option.{Option, none, some}
 use Prim.Native.Nat.{ℕ, suc}
@@ -18,14 +18,6 @@ bad4 known past (Response r status value) = not (requested r past) || answered r
 
 abbrev pub row4 : (known : ℕ → Bool) → List Event → Option ℕ
 row4 known trace = firstBad (bad4 known) 1 [] trace
-
--- and then: request never answered
-abbrev pub unanswered : List Event → List Event → Event → Bool
-unanswered trace past (Request r prog a b) = not (answered r trace)
-unanswered trace past (Response r status value) = false
-
-abbrev pub row4Open : List Event → Option ℕ
-row4Open trace = firstBad (unanswered trace) 1 [] trace
 
 -- Row 6: `of` lines are not one per request in arrival order. n is the line of the next `of`, or the line after the last.
 abbrev pub row6From : ℕ → List Event → List Of → Option ℕ

@@ -121,7 +121,7 @@ module _ (here : Arrays) where
 
   module _ (low : t ≤ 128) (few : m ≤ 64) (known : ℕ → Bool) (ready : Ready known batch) where
     counted : (i : ℕ) → i < n → Counted (countOf (batch .ofs)) (entryAt logs i)
-    counted i h = firsts-all (Counted (countOf (batch .ofs))) (entryAt logs) n i (row7-lines batch (ready .none-to-7 .3) .0) h
+    counted i h = firsts-all (Counted (countOf (batch .ofs))) (entryAt logs) n i (row7-lines batch (ready .none-to-7 .2) .0) h
 
     -- a request with an `of` line has its slot
     slotted : (r s : ℕ) → Named batch r → FirstFrom (λ i. eqb (ofAt ofs i .rid) r) 0 m s → s < m

@@ -20,23 +20,23 @@ use Rattle.text.specs.declared.report.Of.{Of}
 use Rattle.model.specs.Audit.{requestChecks, replayChecks}
 use Rattle.model.specs.Batch.{Batch, firstOf}
 use Rattle.model.specs.Checks.{Check, firstFault, verdict}
-use Rattle.model.specs.Replay.{Reply, silent, said, responseOf, Outcome, ended, replay, replayFrom, outcome, claim}
+use Rattle.model.specs.Replay.{Reply, silent, responseOf, Outcome, ended, replay, replayFrom, outcome, claim}
 use Rattle.machine.specs.Instance.{codeAt, machineOf}
 use Rattle.machine.specs.Objects.{Content}
 use Rattle.replay.specs.Arrays.{Arrays, batchHeld}
 use Rattle.replay.specs.Judges.{Ready}
-use Rattle.replay.specs.Promises.{opens, closes, AnsweredFrom, pathIn, doneIn, outcomeIn, Replays, rowOf, pathAt, arrivalOf, replyOf, JudgesRequests}
+use Rattle.replay.specs.Promises.{opens, AnsweredFrom, repliedAs, leftOpen, pathIn, doneIn, outcomeIn, Replays, rowOf, pathAt, arrivalOf, JudgesRequests}
 use Rattle.replay.specs.declared.replays.Arrival.{Arrival}
 use Rattle.replay.specs.declared.replays.End.{End}
 use Rattle.replay.specs.declared.replays.End.the-variants.{Differs, Ended}
-use Rattle.replay.specs.declared.requests.Said.{Said}
+use Rattle.replay.specs.declared.replays.Replied.{Replied}
 use Rattle.replay.proofs.Rows.{checksOf, row-first, row-none, row-some}
 use Rattle.basics.proofs.Searches.{search-hit}
-use Rattle.replay.proofs.Looking.{request-is, program-below, response-is, counted-is}
+use Rattle.replay.proofs.Looking.{request-is, program-below, counted-is}
 
-byEnd : {P : Type 0} (e : End) → (e ≡ Differs → P) → ((s v d : ℕ) → e ≡ Ended s v d → P) → P
+byEnd : {P : Type 0} (e : End) → (e ≡ Differs → P) → ((own : Replied) (d : ℕ) → e ≡ Ended own d → P) → P
 byEnd Differs f g = f refl
-byEnd (Ended s v d) f g = g s v d refl
+byEnd (Ended own d) f g = g own d refl
 
 module _ (table : List Program) (here : Arrays) (answers : List ℕ) where
   open Arrays here using (events, t, ofs, m, logs, n)
@@ -72,20 +72,20 @@ module _ (table : List Program) (here : Arrays) (answers : List ℕ) where
   -- what was looked up and replayed for the request in slot k, and the row that it breaks
   pub record Step (x : Of) (k : ℕ) (progs lengths old paths : List ℕ) (start : Arrival) (d row : ℕ) : Type 0 where
     pub s : ℕ
-    pub s′ : ℕ
     pub f : ℕ
-    pub reply : Said
+    pub reply : Replied
     pub program : Program
     pub end : End
     pub requests : FirstFrom (λ i. opens (x .rid) (eventAt events i)) 0 t s
     pub starts : start ≡ arrivalOf (eventAt events s)
-    pub responses : FirstFrom (λ i. closes (x .rid) (eventAt events i)) 0 t s′
-    pub replies : reply ≡ replyOf (eventAt events s′)
+    pub isOpen : Bool
+    pub replies : repliedAs reply ≡ responseOf (firsts (eventAt events) t) (x .rid)
+    pub opened : isOpen ≡ leftOpen (repliedAs reply)
     pub programs : program ≡ getD table (start .prog % 16) noProgram
-    pub replays : Replays logs n answers (x .rid) (x .count) (start .a) (start .b) (k * 256) (program .code) old paths end
+    pub replays : Replays logs n answers (x .rid) (x .count) (start .a) (start .b) isOpen (k * 256) (program .code) old paths end
     pub done : d ≡ doneIn end
     pub group : FirstFrom (λ i. eqb (ofAt ofs i .group) (ofAt ofs k .group)) 0 m f
-    pub row-is : row ≡ rowOf (outcomeIn (getD (set progs k (start .prog)) k 0) paths (k * 256) end) (said (reply .status) (reply .value))
+    pub row-is : row ≡ rowOf (outcomeIn (getD (set progs k (start .prog)) k 0) paths (k * 256) end) (repliedAs reply)
         (ended silent (pathAt (set progs k (start .prog)) (set lengths k d) paths f))
 
   pub judging-start : (progs lengths paths : List ℕ) → m ≤ 64 → length progs ≡ 64 → length lengths ≡ 64 → length paths ≡ 16384 →
@@ -150,9 +150,6 @@ module _ (table : List Program) (here : Arrays) (answers : List ℕ) where
         (λ a. p a ∷ q a) ∙ ap (λ x. getD progs′ i 0 ∷ pathIn paths (i * 256) x) l
 
     module _ (known : ℕ → Bool) (ready : Ready known all) (opening : ℕ → Content) (from : From opening) where
-      abbrev reply-is : responseOf (firsts (eventAt events) t) (ofAt ofs k .rid) ≡ said (w .reply .status) (w .reply .value)
-      reply-is = response-is table here known ready k low (w .s) (w .requests) (w .s′) (w .responses) (w .reply) (w .replies)
-
       code-is : codeAt table (start .prog) ≡ w .program .code
       code-is =
           let b = program-below table here known ready k low (w .s) (w .requests) start (w .starts) in
@@ -162,24 +159,25 @@ module _ (table : List Program) (here : Arrays) (answers : List ℕ) where
       outcome-is =
           let r = ofAt ofs k .rid in
           let p = machineOf table .start (start .prog) (start .a) (start .b) in
+          let a = sym (w .replies) in
           let c = counted-is table here known ready k low in
           ap (replayFrom (machineOf table) opening all r)
           (request-is table here known ready k low (w .s) (w .requests) start (w .starts))
-          ∙ (λ i. replay (machineOf table) (claim (machineOf table) (all .log) opening r) (reply-is i) (c i) 1 p (machineOf table .advance p))
-          ∙ sym (w .replays .outcome (record { table = table; opening = opening; answered = from }) (start .prog) (w .reply .status) (w .reply .value) code-is)
+          ∙ (λ i. replay (machineOf table) (claim (machineOf table) (all .log) opening r) (a i) (c i) 1 p (machineOf table .advance p))
+          ∙ sym (w .replays .outcome (record { table = table; opening = opening; answered = from }) (start .prog) (repliedAs (w .reply)) code-is (sym (w .opened)))
 
-      own : (s v e : ℕ) → w .end ≡ Ended s v e → outcomes opening k ≡ ended (said s v) (pathAt progs′ lengths′ paths k)
-      own s v e q =
+      own : (reply : Replied) (e : ℕ) → w .end ≡ Ended reply e → outcomes opening k ≡ ended (repliedAs reply) (pathAt progs′ lengths′ paths k)
+      own reply e q =
           let l : e ≡ getD lengths′ k 0 = sym (length-is ∙ w .done ∙ ap doneIn q) in
           let p : start .prog ≡ getD progs′ k 0 = sym prog-is in
           outcome-is ∙ ap (outcomeIn (start .prog) paths (k * 256)) q
-          ∙ (λ i. ended (said s v) (p i ∷ pathIn paths (k * 256) (l i)))
+          ∙ (λ i. ended (repliedAs reply) (p i ∷ pathIn paths (k * 256) (l i)))
 
-      kept-more : (s v e : ℕ) → w .end ≡ Ended s v e → (i : ℕ) → i ≤ k →
+      kept-more : (reply : Replied) (e : ℕ) → w .end ≡ Ended reply e → (i : ℕ) → i ≤ k →
           (reply : Reply) × (outcomes opening i ≡ ended reply (pathAt progs′ lengths′ paths i))
-      kept-more s v e q i h = byEq i k
+      kept-more reply e q i h = byEq i k
           (λ p _. subst (λ i. (reply : Reply) × (outcomes opening i ≡ ended reply (pathAt progs′ lengths′ paths i))) (sym p)
-          (said s v, own s v e q))
+          (repliedAs reply, own reply e q))
           (λ p _.
           let g = j .kept known ready opening from i (omega arith) in
           (g .0, g .1 ∙ ap (ended (g .0)) (kept-path i (omega arith))))
@@ -200,17 +198,17 @@ module _ (table : List Program) (here : Arrays) (answers : List ℕ) where
       row-real : row ≡ rowOf (outcomes opening k) response firstOutcome
       row-real = byEnd (w .end)
           (λ q.
-          w .row-is ∙ ap (λ e. rowOf (outcomeIn (getD progs′ k 0) paths (k * 256) e) (said (w .reply .status) (w .reply .value))
+          w .row-is ∙ ap (λ e. rowOf (outcomeIn (getD progs′ k 0) paths (k * 256) e) (repliedAs (w .reply))
           (ended silent (pathAt progs′ lengths′ paths (w .f)))) q
           ∙ sym (ap (λ o. rowOf o response firstOutcome) (outcome-is ∙ ap (outcomeIn (start .prog) paths (k * 256)) q)))
-          (λ s v e q.
-          let g = kept-more s v e q (w .f) first-low in
+          (λ own e q.
+          let g = kept-more own e q (w .f) first-low in
           let o : outcomeIn (getD progs′ k 0) paths (k * 256) (w .end) ≡ outcomes opening k =
           ap (λ p. outcomeIn p paths (k * 256) (w .end)) prog-is ∙ sym outcome-is in
           let c : ended (g .0) (pathAt progs′ lengths′ paths (w .f)) ≡ firstOutcome =
           sym (ap (outcome (machineOf table) opening all) first-is ∙ g .1) in
-          let a = sym reply-is in
-          w .row-is ∙ row-first (outcomeIn (getD progs′ k 0) paths (k * 256) (w .end)) (said (w .reply .status) (w .reply .value)) (g .0)
+          let a = w .replies in
+          w .row-is ∙ row-first (outcomeIn (getD progs′ k 0) paths (k * 256) (w .end)) (repliedAs (w .reply)) (g .0)
           (pathAt progs′ lengths′ paths (w .f)) ∙ (λ i. rowOf (o i) (a i) (c i)))
 
       checks-split : checksFrom opening k ≡ checksOf (outcomes opening k) response firstOutcome (suc k) (checksFrom opening (k + 1))
@@ -241,9 +239,9 @@ module _ (table : List Program) (here : Arrays) (answers : List ℕ) where
       kept = λ known ready opening from i h. byEnd (w .end)
           (λ q.
           let e : 0 ≡ 10 = sym z ∙ w .row-is ∙ ap (λ e. rowOf (outcomeIn (getD progs′ k 0) paths (k * 256) e)
-          (said (w .reply .status) (w .reply .value)) (ended silent (pathAt progs′ lengths′ paths (w .f)))) q in
+          (repliedAs (w .reply)) (ended silent (pathAt progs′ lengths′ paths (w .f)))) q in
           absurd (omega arith))
-          (λ s v e q. kept-more known ready opening from s v e q i (omega arith));
+          (λ own e q. kept-more known ready opening from own e q i (omega arith));
       rest = λ known ready opening from.
           j .rest known ready opening from ∙ ap firstFault (checks-split known ready opening from)
           ∙ row-none (outcomes opening k) (response known ready opening from) (firstOutcome known ready opening from) (suc k)

@@ -2,28 +2,28 @@
 use mathlib.Core.Bool.{Bool, true, cond}
 use mathlib.Core.List.{List, _∷_, List·Memᴰ}
 use mathlib.Core.Option.{Option, none, some}
-use mathlib.Core.Path.{_≡_, refl, sym, ap, subst, _∙_}
-use Prim.Native.Nat.{ℕ, _-_, _<_}
+use mathlib.Core.Path.{_≡_, refl, sym, ap, _∙_}
+use Prim.Native.Nat.{ℕ, _≤_, _<_}
 use borrow.Author.Tests.{ltb-true, ltb-false}
-use lib.Dec.{eqb, ltb}
+use lib.Dec.{ltb}
+use Rattle.basics.specs.Firsts.{firsts}
 use Rattle.basics.specs.Scans.{FirstFrom}
 use Rattle.basics.proofs.Firsts.{firsts-all, firsts-mem}
-use Rattle.basics.proofs.Tests.{clash, byBool, byEq}
+use Rattle.basics.proofs.Tests.{clash, byBool}
 use Rattle.text.specs.Held.{eventAt, ofAt}
 use Rattle.text.specs.declared.programs.Program.{Program}
 use Rattle.text.specs.declared.trace.Event.the-variants.{Request, Response}
 use Rattle.text.specs.declared.trace.Event.{Event}
-use Rattle.model.specs.Batch.{Batch, answered, countOf}
+use Rattle.model.specs.Batch.{Batch, countOf}
 use Rattle.model.specs.Machine.{Machine}
 use Rattle.model.specs.Replay.{Reply, silent, said, responseOf, requestOf}
 use Rattle.model.proofs.Requests.{ofs-counted, ofs-asked}
-use Rattle.model.proofs.Trace.{KnownIn, AnsweredIn, row4-order, row4-answered}
+use Rattle.model.proofs.Trace.{KnownIn, row4-order}
 use Rattle.machine.specs.Instance.{machineOf}
 use Rattle.replay.specs.Arrays.{Arrays, batchHeld}
 use Rattle.replay.specs.Judges.{Ready}
-use Rattle.replay.specs.Promises.{opens, closes, arrivalOf, replyOf}
+use Rattle.replay.specs.Promises.{opens, closes, arrivalOf}
 use Rattle.replay.specs.declared.replays.Arrival.{Arrival}
-use Rattle.replay.specs.declared.requests.Said.{Said}
 use Rattle.replay.proofs.Ready.{ready-formed}
 use Rattle.basics.proofs.Searches.{search-hit, search-none}
 
@@ -40,30 +40,26 @@ module _ (M : Machine) (r : ℕ) where
   start-opens (Request q prog a b) h = refl
   start-opens (Response q s v) h = clash (cc)
 
-module _ (r : ℕ) where
-  abbrev replyFrom : Event → Reply
-  replyFrom (Request q prog a b) = silent
-  replyFrom (Response q s v) = said s v
+abbrev pub replyFrom : Event → Reply
+replyFrom (Request q prog a b) = silent
+replyFrom (Response q s v) = said s v
 
+module _ (r : ℕ) where
   response-step : (c : Unit {0}) (e : Event) (es : List Event) → responseOf (e ∷ es) r ≡ cond (closes r e) (replyFrom e) (responseOf es r)
   response-step c (Request q prog a b) es = refl
   response-step c (Response q s v) es = refl
 
-  answered-step : (c : Unit {0}) (e : Event) (es : List Event) → answered r (e ∷ es) ≡ cond (closes r e) true (answered r es)
-  answered-step c (Request q prog a b) es = refl
-  answered-step c (Response q s v) es = byBool (eqb q r) (λ t. rw t) (λ t. rw t)
+  -- what is found of a response among the first t events
+  module _ (f : ℕ → Event) (t s : ℕ) (g : FirstFrom (λ i. closes r (f i)) 0 t s) where
+    pub response-there : s < t → responseOf (firsts f t) r ≡ replyFrom (f s)
+    response-there = search-hit (λ (c : Unit {0}) es. responseOf es r) (closes r) (λ c e. replyFrom e) (λ c e. c) response-step t s f tt g
 
-  reply-closes : (e : Event) → closes r e ≡ true → replyFrom e ≡ said (replyOf e .status) (replyOf e .value)
-  reply-closes (Request q prog a b) h = clash (cc)
-  reply-closes (Response q s v) h = refl
+    pub response-missing : t ≤ s → responseOf (firsts f t) r ≡ silent
+    response-missing = search-none (λ (c : Unit {0}) es. responseOf es r) (closes r) (λ c e. replyFrom e) (λ c e. c) response-step t s f tt g
 
 known-opens : (known : ℕ → Bool) (r : ℕ) (e : Event) → opens r e ≡ true → KnownIn known e → known (arrivalOf e .prog) ≡ true
 known-opens known r (Request q prog a b) h k = k
 known-opens known r (Response q s v) h k = clash (cc)
-
-answered-opens : (trace : List Event) (r : ℕ) (e : Event) → opens r e ≡ true → AnsweredIn trace e → answered r trace ≡ true
-answered-opens trace r (Request q prog a b) h k = byEq q r (λ p _. subst (λ q. answered q trace ≡ true) p k) (λ n d. clash (cc))
-answered-opens trace r (Response q s v) h k = clash (cc)
 
 module _ (table : List Program) (here : Arrays) where
   open Arrays here using (events, t, ofs, m, logs, n)
@@ -103,25 +99,6 @@ module _ (table : List Program) (here : Arrays) where
         program-below = ready .programs (start .prog) (ap (λ x. known (x .prog)) e
             ∙ known-opens known r (eventAt events s) opened
             (firsts-all (KnownIn known) (eventAt events) t s (row4-order known (batch .trace) .0 (ready .none-to-7 .0) .1) arrived))
-
-      module _ (s′ : ℕ) (g : FirstFrom (λ i. closes r (eventAt events i)) 0 t s′) (reply : Said) (e : reply ≡ replyOf (eventAt events s′))
-        where
-          replied : s′ < t
-          replied = byBool (ltb s′ t) (λ h. ltb-true s′ t h) (λ h. clash
-              (let e = search-none (λ (c : Unit {0}) es. answered r es) (closes r) (λ c e. true) (λ c e. c) (answered-step r)
-              t s′ (eventAt events)
-              tt g (ltb-false s′ t h) in
-              let d = answered-opens (batch .trace) r (eventAt events s) opened
-              (firsts-all (AnsweredIn (batch .trace)) (eventAt events) t s (row4-answered (batch .trace) .0 (ready .none-to-7 .1)) arrived)
-              in cc))
-
-          pub response-is : responseOf (batch .trace) r ≡ said (reply .status) (reply .value)
-          response-is =
-              search-hit (λ (c : Unit {0}) es. responseOf es r) (closes r) (λ c e. replyFrom r e) (λ c e. c) (response-step r)
-              t s′ (eventAt events)
-              tt g replied
-              ∙ reply-closes r (eventAt events s′) (g .found replied .1)
-              ∙ ap (λ x. said (x .status) (x .value)) (sym e)
 
     pub counted-is : countOf (batch .ofs) r ≡ ofAt ofs k .count
     counted-is = ofs-counted batch (ready-formed known batch ready) (ofAt ofs k) mem

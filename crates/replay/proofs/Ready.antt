@@ -8,5 +8,5 @@ use Rattle.replay.specs.Judges.{Ready}
 pub ready-formed : (known : ℕ → Bool) (b : Batch) → Ready known b → Formed b
 ready-formed known b ready = record {
   inOrder = row4-order known (b .trace) .0 (ready .none-to-7 .0) .0;
-  matching = row6-matching b .0 (ready .none-to-7 .2);
+  matching = row6-matching b .0 (ready .none-to-7 .1);
 }

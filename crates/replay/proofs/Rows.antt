@@ -3,32 +3,34 @@ use mathlib.Core.Bool.{Bool, true, false, cond, not}
 use mathlib.Core.List.{List, _∷_}
 use mathlib.Core.Path.{_≡_, refl, sym, ap, _∙_}
 use Prim.Native.Nat.{ℕ}
-use borrow.Author.Tests.{eq-eqb, ne-eqb}
 use native.Mathlib.Omega.{arith}
-use Rattle.model.specs.Audit.{bad10, bad11, bad12, samePath}
+use Rattle.model.specs.Audit.{bad10, bad11, bad12, sameReply, samePath}
 use Rattle.model.specs.Checks.{Check, check, firstFault, breaks, verdict}
 use Rattle.model.specs.Replay.{Reply, silent, said, Outcome, differs, ended}
-use Rattle.replay.specs.Promises.{pathIn, doneIn, outcomeIn, rowOf}
+use Rattle.replay.specs.Promises.{repliedAs, leftOpen, pathIn, doneIn, outcomeIn, rowOf}
 use Rattle.replay.specs.declared.replays.End.{End}
 use Rattle.replay.specs.declared.replays.End.the-variants.{Differs, Ended}
+use Rattle.replay.specs.declared.replays.Replied.{Replied}
 
 -- ── the row as code finds it ──
+pub silent-same : (reply : Reply) → leftOpen reply ≡ sameReply silent reply
+silent-same silent = refl
+silent-same (said s v) = refl
+
 module _ (prog : ℕ) (paths : List ℕ) (base : ℕ) (end : End) where
   pub row-differs : end ≡ Differs → (reply : Reply) (first : Outcome) → 10 ≡ rowOf (outcomeIn prog paths base end) reply first
   row-differs e reply first = sym (ap (λ x. rowOf (outcomeIn prog paths base x) reply first) e)
 
-  module _ (s v d : ℕ) (e : end ≡ Ended s v d) (s′ v′ : ℕ) (w : List ℕ) where
+  module _ (own : Replied) (d : ℕ) (e : end ≡ Ended own d) (reply : Reply) (w : List ℕ) (same : Bool)
+      (a : same ≡ sameReply (repliedAs own) reply) where
     abbrev row : ℕ
-    row = rowOf (outcomeIn prog paths base end) (said s′ v′) (ended silent w)
+    row = rowOf (outcomeIn prog paths base end) reply (ended silent w)
 
-    pub row-status : (s ≡ s′ → ⊥) → 11 ≡ row
-    row-status n = rw (e, ne-eqb s s′ n)
+    pub row-reply : not same ≡ true → 11 ≡ row
+    row-reply n = rw (e, ← a, n)
 
-    pub row-value : s ≡ s′ → (v ≡ v′ → ⊥) → 11 ≡ row
-    row-value p n = rw (e, eq-eqb s s′ p, ne-eqb v v′ n)
-
-    pub row-path : s ≡ s′ → v ≡ v′ → (t : ℕ) → t ≡ doneIn end → (b : Bool) → b ≡ samePath (prog ∷ pathIn paths base t) w → cond b 0 12 ≡ row
-    row-path p q t l b c = rw (c, l, e, eq-eqb s s′ p, eq-eqb v v′ q) (either (samePath (prog ∷ pathIn paths base d) w))
+    pub row-path : not same ≡ false → (t : ℕ) → t ≡ doneIn end → (b : Bool) → b ≡ samePath (prog ∷ pathIn paths base t) w → cond b 0 12 ≡ row
+    row-path p t l b c = rw (c, l, e, ← a, p) (either (samePath (prog ∷ pathIn paths base d) w))
       where
         either : (x : Bool) → _≡_ {A = ℕ} (cond x 0 12) (cond (not x) 12 0)
         either true = refl

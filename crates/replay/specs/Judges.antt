@@ -10,7 +10,7 @@ use Rattle.basics.specs.Firsts.{firsts}
 use Rattle.text.specs.Formats.{mostEntries, mostObjects, mostOperations, mostPrograms}
 use Rattle.text.specs.declared.programs.Programs.{Programs}
 use Rattle.model.specs.Audit.{row9, from8}
-use Rattle.model.specs.Requests.{row4, row4Open, row6}
+use Rattle.model.specs.Requests.{row4, row6}
 use Rattle.model.specs.Claims.{row7}
 use Rattle.model.specs.Batch.{Batch}
 use Rattle.model.specs.Checks.{verdict, firstFault}
@@ -25,7 +25,7 @@ use Rattle.replay.specs.declared.Fault.{Fault}
 -- What is known of a batch when row 8 is looked at: no row from 4 to 7 holds, the programs are no more than may be, and objects and counts are in
 -- the range of a readable report.
 pub record Ready (known : ℕ → Bool) (b : Batch) : Type 0 where
-  pub none-to-7 : (row4 known (b .trace) ≡ none) × (row4Open (b .trace) ≡ none) × (row6 b ≡ none) × (row7 b ≡ none)
+  pub none-to-7 : (row4 known (b .trace) ≡ none) × (row6 b ≡ none) × (row7 b ≡ none)
   pub programs : (prog : ℕ) → known prog ≡ true → prog < mostPrograms
   pub objects : All (λ l. l .op .object < mostObjects) (b .log)
   pub counts : All (λ x. x .count ≤ mostOperations) (b .ofs)

@@ -1,5 +1,5 @@
 -- What the private functions promise.
-use mathlib.Core.Bool.{Bool, false, cond}
+use mathlib.Core.Bool.{Bool, true, false, cond, _&&_}
 use mathlib.Core.List.{List, _∷_}
 use mathlib.Core.Path.{_≡_}
 use Prim.Native.Nat.{ℕ, suc, _+_, _*_, _%_, _≤_, _<_}
@@ -19,7 +19,7 @@ use Rattle.model.specs.Audit.{bad10, bad11, bad12, replayChecks, row9}
 use Rattle.model.specs.Checks.{verdict, firstFault, breaks}
 use Rattle.model.specs.Nodes.{rid}
 use Rattle.model.specs.Batch.{Node, ev, ln}
-use Rattle.model.specs.Replay.{Reply, said, Outcome, differs, ended, Answer, wrong, right, Claim, claim, compare, replay}
+use Rattle.model.specs.Replay.{Reply, silent, said, Outcome, differs, ended, Answer, wrong, right, Claim, claim, compare, replay}
 use Rattle.machine.specs.Processes.{limit}
 use Rattle.machine.specs.Instance.{Process, codeAt, machineOf}
 use Rattle.cells.specs.Rows.{mostCells}
@@ -31,7 +31,8 @@ use Rattle.replay.specs.Judges.{Ready}
 use Rattle.replay.specs.declared.Fault.{Fault}
 use Rattle.replay.specs.declared.claims.Answered.{Answered}
 use Rattle.replay.specs.declared.replays.Arrival.{Arrival}
-use Rattle.replay.specs.declared.requests.Said.{Said}
+use Rattle.replay.specs.declared.replays.Replied.{Replied}
+use Rattle.replay.specs.declared.replays.Replied.the-variants.{Silent, Said}
 use Rattle.replay.specs.declared.replays.End.{End}
 use Rattle.replay.specs.declared.replays.End.the-variants.{Differs, Ended}
 use Rattle.replay.specs.declared.claims.Answered.the-variants.{Wrong, Right}
@@ -109,6 +110,20 @@ abbrev pub Answers : (logs : List ℕ) (n : ℕ) (answers : List ℕ) (rid num :
 Answers logs n answers r k o x = (w : Setting logs n answers) → answeredAs x ≡ compare (machineOf (w .table)) o (claimedIn w r k)
 
 -- ── replays ──
+-- what a request was answered with, if it was
+abbrev pub repliedAs : Replied → Reply
+repliedAs Silent = silent
+repliedAs (Said status value) = said status value
+
+abbrev pub leftOpen : Reply → Bool
+leftOpen silent = true
+leftOpen (said status value) = false
+
+-- How many instructions a request may carry out that has done k operations in `done` instructions: no more, where it was left open behind
+-- them.
+abbrev pub mostOf : (isOpen : Bool) (k count done : ℕ) → ℕ
+mostOf isOpen k count done = cond (isOpen && eqb k count) done limit
+
 -- the rows of all paths: a path has no more positions than a request carries out instructions
 abbrev pub pathRoom : ℕ
 pathRoom = mostOfs * limit
@@ -119,25 +134,25 @@ pathIn paths base done = firsts (λ i. getD paths (base + i) 0) done
 
 abbrev pub doneIn : End → ℕ
 doneIn Differs = 0
-doneIn (Ended status value done) = done
+doneIn (Ended reply done) = done
 
 -- how a replay came out, of a request of program `prog`
 abbrev pub outcomeIn : (prog : ℕ) → List ℕ → (base : ℕ) → End → Outcome
 outcomeIn prog paths base Differs = differs
-outcomeIn prog paths base (Ended status value done) = ended (said status value) (prog ∷ pathIn paths base done)
+outcomeIn prog paths base (Ended reply done) = ended (repliedAs reply) (prog ∷ pathIn paths base done)
 
 -- the replay of a process that has `left` operations to do, the next of which has the number k
 abbrev pub replayOf : {logs : List ℕ} {n : ℕ} {answers : List ℕ} → Setting logs n answers → (rid : ℕ) → Reply → (left k : ℕ) → Process → Outcome
 replayOf w r reply left k p = replay (machineOf (w .table)) (claimedIn w r) reply left k p (machineOf (w .table) .advance p)
 
--- the replay of a request with inputs a and b, whatever its program's number and its response
-pub record Replays (logs : List ℕ) (n : ℕ) (answers : List ℕ) (rid count a b base : ℕ) (code : List Instr) (old paths : List ℕ) (end : End) :
-    Type 0 where
+-- the replay of a request with inputs a and b, left open or not, whatever its program's number and its response
+pub record Replays (logs : List ℕ) (n : ℕ) (answers : List ℕ) (rid count a b : ℕ) (isOpen : Bool) (base : ℕ) (code : List Instr)
+    (old paths : List ℕ) (end : End) : Type 0 where
   pub room : length paths ≡ pathRoom
   pub kept : (i : ℕ) → i < base → getD paths i 0 ≡ getD old i 0
   pub few : doneIn end ≤ limit
-  pub outcome : (w : Setting logs n answers) (prog s v : ℕ) → codeAt (w .table) prog ≡ code →
-      outcomeIn prog paths base end ≡ replayOf w rid (said s v) count 1 (machineOf (w .table) .start prog a b)
+  pub outcome : (w : Setting logs n answers) (prog : ℕ) (reply : Reply) → codeAt (w .table) prog ≡ code → leftOpen reply ≡ isOpen →
+      outcomeIn prog paths base end ≡ replayOf w rid reply count 1 (machineOf (w .table) .start prog a b)
 
 -- ── rows 10 to 12 of one request ──
 -- the row that a request breaks first, 0 if none: its outcome, its response, and the outcome of the first request of its group
@@ -152,10 +167,6 @@ pathAt progs lengths paths slot = getD progs slot 0 ∷ pathIn paths (slot * lim
 abbrev pub arrivalOf : Event → Arrival
 arrivalOf (Request r prog a b) = record { prog = prog; a = a; b = b }
 arrivalOf (Response r status value) = record { prog = 0; a = 0; b = 0 }
-
-abbrev pub replyOf : Event → Said
-replyOf (Request r prog a b) = record { status = 0; value = 0 }
-replyOf (Response r status value) = record { status = status; value = value }
 
 -- the fault r is the first of rows 10 to 12
 abbrev pub JudgesRequests : List Program → Arrays → (answers : List ℕ) → Fault → Type 0

@@ -22,7 +22,8 @@ ghost use lib.ListN.{length};
 ghost use Rattle.text.specs.Formats.{mostOfs};
 ghost use Rattle.machine.specs.Processes.{limit};
 ghost use Rattle.replay.specs.declared.replays.End.the-variants.{Differs, Ended};
-ghost use Rattle.replay.specs.Promises.{Prepared, Replays, pathRoom};
+ghost use Rattle.replay.specs.declared.replays.Replied.the-variants.{Silent, Said};
+ghost use Rattle.replay.specs.Promises.{mostOf, Prepared, Replays, pathRoom};
 
 // A request as it arrives.
 pub struct Arrival {
@@ -31,21 +32,50 @@ pub struct Arrival {
     pub b: u64,
 }
 
-// How a replay comes out: not as the report has it, or with a status, a value and so many instructions carried out.
+// What a request was answered with: nothing, or a status and a value.
+pub enum Replied {
+    Silent,
+    Said(u64, u64),
+}
+
+// How a replay comes out: not as the report has it, or with a reply and so many instructions carried out.
 pub enum End {
     Differs,
-    Ended(u64, u64, usize),
+    Ended(Replied, usize),
 }
 
 // A request stops behind k operations, of which the report counts `count`.
-fn stopped(k: u64, count: u64, status: u64, value: u64, done: usize) -> End
-    ensures { λ r. ⌜ r ≡ cond (eqb k count) (Ended status value done) Differs ⌝ }
+fn stopped(k: u64, count: u64, reply: Replied, done: usize) -> End
+    ensures { λ r. ⌜ r ≡ cond (eqb k count) (Ended reply done) Differs ⌝ }
 {
     if k == count {
-        End::Ended(status, value, done)
+        End::Ended(reply, done)
     } else {
         End::Differs
     }
+}
+
+// A request that goes no further without a reply: it was left open, or is cut off.
+fn unreplied(is_open: bool) -> Replied
+    ensures { λ r. ⌜ r ≡ cond is_open Silent (Said 1 0) ⌝ }
+{
+    if is_open {
+        Replied::Silent
+    } else {
+        Replied::Said(1, 0)
+    }
+}
+
+// How many instructions a request may carry out: one left open stops behind its last operation.
+fn most_of(is_open: bool, k: u64, count: u64, done: usize) -> usize
+    ensures { λ r. ⌜ r ≡ mostOf is_open k count done ⌝ }
+{
+    if is_open {
+        if k == count {
+            return done;
+        }
+    }
+    LIMIT
 }
 
 // The request in slot `slot`. The positions it carries out go to its row of paths.
@@ -53,6 +83,7 @@ pub(crate) fn replay(
     p: Program,
     start: Arrival,
     x: Of,
+    is_open: bool,
     slot: usize,
     logs: &[u64; ENTRY_ROWS],
     n: usize,
@@ -62,7 +93,7 @@ pub(crate) fn replay(
     paths: &mut [u8; PATH_ROWS],
 ) -> End
     requires { ⌜ (slot < mostOfs) × (length (now paths) ≡ pathRoom) × Prepared (now logs) n (now heads) (now afters) ⌝ }
-    ensures { λ r. ⌜ Replays (now (logs .entry)) n (now (answers .entry)) (x .rid) (x .count) (start .a) (start .b) (slot * limit)
+    ensures { λ r. ⌜ Replays (now (logs .entry)) n (now (answers .entry)) (x .rid) (x .count) (start .a) (start .b) is_open (slot * limit)
         (p .code) (now (paths .entry)) (now (paths .exit)) r ⌝ }
 {
     let mut l = first_locals(start.a, start.b);
@@ -72,7 +103,8 @@ pub(crate) fn replay(
     let mut at: u64 = 0;
     let mut done: usize = 0;
     let mut k: u64 = 0;
-    while done < LIMIT {
+    let mut most = most_of(is_open, k, count, done);
+    while done < most {
         let here = at % POSITIONS;
         let i = p.code[here as usize];
         paths[base + done] = here as u8;
@@ -93,13 +125,14 @@ pub(crate) fn replay(
                         resume(&mut l, into, v);
                         k += 1;
                         at = here + 1;
+                        most = most_of(is_open, k, count, done);
                     }
                 }
             }
             Act::Replies(v) => {
-                return stopped(k, count, 0, v, done);
+                return stopped(k, count, Replied::Said(0, v), done);
             }
         }
     }
-    stopped(k, count, 1, 0, done)
+    stopped(k, count, unreplied(is_open), done)
 }

@@ -7,6 +7,7 @@ use crate::lookups::event_of;
 use crate::lookups::first_of_group;
 use crate::replays::Arrival;
 use crate::replays::End;
+use crate::replays::Replied;
 use crate::replays::replay;
 use text::ENTRIES;
 use text::ENTRY_ROWS;
@@ -21,10 +22,11 @@ use text::of_at;
 ghost use mathlib.Core.Path.{_≡_};
 ghost use Prim.Native.Nat.{_*_, _≤_, _<_};
 ghost use lib.ListN.{getD};
+ghost use Rattle.basics.specs.Firsts.{firsts};
 ghost use Rattle.text.specs.Formats.{mostOfs};
 ghost use Rattle.text.specs.Held.{eventAt};
-ghost use Rattle.model.specs.Audit.{samePath};
-ghost use Rattle.model.specs.Replay.{silent, said, ended};
+ghost use Rattle.model.specs.Audit.{sameReply, samePath};
+ghost use Rattle.model.specs.Replay.{silent, responseOf, ended};
 ghost use Rattle.machine.specs.Processes.{limit};
 ghost use Rattle.replay.specs.Arrays.{arrays};
 ghost use Rattle.replay.specs.Promises.{
@@ -34,16 +36,11 @@ ghost use Rattle.replay.specs.Promises.{
   rowOf,
   pathAt,
   arrivalOf,
-  replyOf,
+  repliedAs,
+  leftOpen,
   Prepared,
   JudgesRequests,
 };
-
-// What the trace says of a response.
-pub struct Said {
-    pub status: u64,
-    pub value: u64,
-}
 
 fn arrival_at(events: &[u64; EVENT_ROWS], i: usize) -> Arrival
     ensures { λ r. ⌜ r ≡ arrivalOf (eventAt (now (events .entry)) i) ⌝ }
@@ -58,15 +55,39 @@ fn arrival_at(events: &[u64; EVENT_ROWS], i: usize) -> Arrival
     }
 }
 
-fn reply_at(events: &[u64; EVENT_ROWS], i: usize) -> Said
-    ensures { λ r. ⌜ r ≡ replyOf (eventAt (now (events .entry)) i) ⌝ }
+// What the trace has for a request: its response, or nothing.
+fn response_of(events: &[u64; EVENT_ROWS], t: usize, rid: u64) -> Replied
+    ensures { λ r. ⌜ repliedAs r ≡ responseOf (firsts (eventAt (now (events .entry))) t) rid ⌝ }
 {
+    let i = event_of(events, t, rid, true);
+    if t <= i {
+        return Replied::Silent;
+    }
     match event_at(events, i) {
-        Event::Request { .. } => Said {
-            status: 0,
-            value: 0,
+        Event::Request { .. } => Replied::Silent,
+        Event::Response { status, value, .. } => Replied::Said(status, value),
+    }
+}
+
+// Whether a request was left open.
+fn left_open(reply: Replied) -> bool
+    ensures { λ r. ⌜ r ≡ leftOpen (repliedAs reply) ⌝ }
+{
+    match reply {
+        Replied::Silent => true,
+        Replied::Said(_, _) => false,
+    }
+}
+
+fn same_reply(x: Replied, y: Replied) -> bool
+    ensures { λ r. ⌜ r ≡ sameReply (repliedAs x) (repliedAs y) ⌝ }
+{
+    match x {
+        Replied::Silent => left_open(y),
+        Replied::Said(status, value) => match y {
+            Replied::Silent => false,
+            Replied::Said(s, v) => { if status == s { value == v } else { false } }
         },
-        Event::Response { status, value, .. } => Said { status, value },
     }
 }
 
@@ -75,7 +96,7 @@ fn done_of(e: End) -> usize
 {
     match e {
         End::Differs => 0,
-        End::Ended(_, _, done) => done,
+        End::Ended(_, done) => done,
     }
 }
 
@@ -122,7 +143,7 @@ fn along(
 // The row that the request in slot k breaks first, 0 if none. The first request of its group is in slot f.
 fn row_of(
     end: End,
-    reply: Said,
+    reply: Replied,
     progs: &[u64; OFS],
     lengths: &[usize; OFS],
     paths: &[u8; PATH_ROWS],
@@ -131,15 +152,12 @@ fn row_of(
 ) -> u64
     requires { ⌜ (k < mostOfs) × (f < mostOfs) × (getD (now lengths) k 0 ≡ doneIn end) × (doneIn end ≤ limit) ⌝ }
     ensures { λ r. ⌜ r ≡ rowOf (outcomeIn (getD (now (progs .entry)) k 0) (now (paths .entry)) (k * limit) end)
-        (said (reply .status) (reply .value)) (ended silent (pathAt (now (progs .entry)) (now (lengths .entry)) (now (paths .entry)) f)) ⌝ }
+        (repliedAs reply) (ended silent (pathAt (now (progs .entry)) (now (lengths .entry)) (now (paths .entry)) f)) ⌝ }
 {
     match end {
         End::Differs => 10,
-        End::Ended(status, value, _) => {
-            if status != reply.status {
-                return 11;
-            }
-            if value != reply.value {
+        End::Ended(own, _) => {
+            if !same_reply(own, reply) {
                 return 11;
             }
             if along(progs, lengths, paths, k, f) {
@@ -176,10 +194,23 @@ pub(crate) fn judge_requests(
         let f = first_of_group(ofs, m, k);
         let x = of_at(ofs, k);
         let start = arrival_at(events, event_of(events, t, x.rid, false));
-        let reply = reply_at(events, event_of(events, t, x.rid, true));
+        let reply = response_of(events, t, x.rid);
+        let is_open = left_open(reply);
         let prog = start.prog;
         let p = ps.table[(prog % PROGRAM_NUMBERS) as usize];
-        let end = replay(p, start, x, k, logs, n, heads, afters, answers, &mut paths);
+        let end = replay(
+            p,
+            start,
+            x,
+            is_open,
+            k,
+            logs,
+            n,
+            heads,
+            afters,
+            answers,
+            &mut paths,
+        );
         progs[k] = prog;
         lengths[k] = done_of(end);
         let row = row_of(end, reply, &progs, &lengths, &paths, k, f);

@@ -1,4 +1,4 @@
--- Row 4 in the terms of its scans: an event among those above it, and a request among all events.
+-- Row 4 in the terms of its scans: an event among those above it.
 use Prim.Native.Nat.{ℕ, _+_, _<_}
 use mathlib.Core.Bool.{Bool, true, false, not}
 use mathlib.Core.List.{List, [], _∷_}
@@ -8,12 +8,12 @@ use Rattle.basics.specs.Firsts.{firsts}
 use Rattle.basics.proofs.Tests.{or-true}
 use Rattle.text.specs.declared.trace.Event.the-variants.{Request, Response}
 use Rattle.text.specs.declared.trace.Event.{Event}
-use Rattle.model.specs.Requests.{bad4, row4, unanswered}
+use Rattle.model.specs.Requests.{bad4, row4}
 use Rattle.model.specs.Batch.{requested, answered}
 use Rattle.model.proofs.LineScans.{above, Scanned, scan-on, scan-bad}
 use Rattle.machine.specs.Rules.{brokenLine}
 use Rattle.machine.specs.declared.rules.Ruling.the-variants.{Broken}
-use Rattle.rows.specs.Steps.{any, alike, mayStand, settles}
+use Rattle.rows.specs.Steps.{any, alike, mayStand}
 use Rattle.rows.proofs.Searches.{any-firsts}
 
 -- the rid of an event is all that counts
@@ -53,10 +53,3 @@ module _ (known : ℕ → Bool) {f : ℕ → Event} {t i : ℕ} (s : Scanned (ba
       by (Request r prog a b) g d = rw (requested-any r prog a b (above f i) ∙ d, g)
       by (Response r status value) g d =
           rw (requested-any r 0 0 0 (above f i) ∙ sym (any-firsts f _ i) ∙ g, answered-any r status value (above f i) ∙ d)
-
-pub settled-event : (trace past : List Event) (e d : Event) → e ≡ d → unanswered trace past d ≡ not (settles trace e)
-settled-event trace past e d l = ap (unanswered trace past) (sym l) ∙ by e
-  where
-    by : (e : Event) → unanswered trace past e ≡ not (settles trace e)
-    by (Request r prog a b) = ap not (answered-any r 0 0 trace)
-    by (Response r status value) = refl

@@ -1,6 +1,6 @@
 -- What the private functions of this crate promise. The public contracts do not need it.
 use Prim.Native.Nat.{ℕ, _+_, _*_, _%_, _≤_, _<_}
-use mathlib.Core.Bool.{Bool, true, false, not, _||_}
+use mathlib.Core.Bool.{Bool, false, not, _||_}
 use mathlib.Core.List.{List, [], _∷_}
 use mathlib.Core.Path.{_≡_}
 use lib.Dec.{eqb, ltb}
@@ -32,11 +32,6 @@ hasLike e ds = any (λ d. alike d e) ds
 abbrev pub mayStand : (known : ℕ → Bool) → List Event → Event → Bool
 mayStand known above (Request r prog a b) = known prog
 mayStand known above (Response r status value) = hasLike (Request r 0 0 0) above
-
--- an event that asks for no response, or has it in the trace
-abbrev pub settles : List Event → Event → Bool
-settles trace (Request r prog a b) = hasLike (Response r 0 0) trace
-settles trace (Response r status value) = true
 
 -- no count allows operation k of request r
 abbrev pub beyond : List Of → (rid num : ℕ) → Bool

@@ -5,4 +5,3 @@ mod traces;
 pub use reports::row_6;
 pub use reports::row_7;
 pub use traces::row_4;
-pub use traces::row_4_open;

@@ -7,9 +7,9 @@ ghost use mathlib.Core.Path.{_≡_};
 ghost use lib.Dec.{ltb};
 ghost use Rattle.basics.specs.Firsts.{firsts};
 ghost use Rattle.text.specs.Held.{eventAt};
-ghost use Rattle.model.specs.Requests.{row4, row4Open};
+ghost use Rattle.model.specs.Requests.{row4};
 ghost use Rattle.machine.specs.Rules.{brokenLine};
-ghost use Rattle.rows.specs.Steps.{alike, hasLike, mayStand, settles};
+ghost use Rattle.rows.specs.Steps.{alike, hasLike, mayStand};
 
 // Whether two events are of one kind and one rid.
 fn like(d: Event, e: Event) -> bool
@@ -116,51 +116,6 @@ pub fn row_4(events: &[u64; EVENT_ROWS], t: usize, programs: usize) -> Ruling
                 break 'lines;
             }
             j += 1;
-        }
-        i += 1;
-    }
-    if i < t {
-        Ruling::Broken(i + 1)
-    } else {
-        Ruling::Kept
-    }
-}
-
-// Whether an event asks for no response, or has it among the first n.
-fn settled(events: &[u64; EVENT_ROWS], n: usize, e: Event) -> bool
-    ensures { λ r. ⌜ r ≡ settles (firsts (eventAt (now (events .entry))) n) e ⌝ }
-{
-    match e {
-        Event::Request {
-            rid,
-            prog: _,
-            a: _,
-            b: _,
-        } => has_like(
-            events,
-            n,
-            Event::Response {
-                rid,
-                status: 0,
-                value: 0,
-            },
-        ),
-        Event::Response {
-            rid: _,
-            status: _,
-            value: _,
-        } => true,
-    }
-}
-
-// Row 4 behind its lines: request never answered.
-pub fn row_4_open(events: &[u64; EVENT_ROWS], t: usize) -> Ruling
-    ensures { λ r. ⌜ brokenLine r ≡ row4Open (firsts (eventAt (now (events .entry))) t) ⌝ }
-{
-    let mut i: usize = 0;
-    'lines: while i < t {
-        if !settled(events, t, event_at(events, i)) {
-            break 'lines;
         }
         i += 1;
     }

@@ -18,7 +18,7 @@ use Rattle.text.specs.Trace.{isRequest, readTrace}
 use Rattle.model.specs.Audit.{from4, audit}
 use Rattle.model.specs.Batch.{batchOf}
 use Rattle.model.specs.Checks.{verdict, Verdict, firstFault, badLine, contents}
-use Rattle.model.specs.Requests.{row4, row4Open}
+use Rattle.model.specs.Requests.{row4}
 use Rattle.model.proofs.Audited.{audit-rows}
 use Rattle.model.proofs.Main.{audit-exactly, row-9, line-of-0, line-of-9}
 use Rattle.model.proofs.Scans.{passes, passed, read-fine}
@@ -61,8 +61,7 @@ module _ (programs trace report : List ℕ) where
       let e2 = passed 2 (row2 table) _ n (d .1 .0) (e1 .1) in
       let e3 = passed 3 (badLine t) _ n (d .1 .1 .0) (e2 .1) in
       let e4 = passed 4 (row4 (known table) events) _ n (d .1 .1 .1 .0) (e3 .1) in
-      let e4-open = passed 4 (row4Open events) _ n (d .1 .1 .1 .0) (e4 .1) in
-      let e5 = passed 5 (badLine r) _ n (d .1 .1 .1 .1 .0) (e4-open .1) in
+      let e5 = passed 5 (badLine r) _ n (d .1 .1 .1 .1 .0) (e4 .1) in
       let lines = read-fine noLines r (e5 .0) in (
         record {
           table = table;

@@ -19,7 +19,7 @@ use Rattle.text.specs.declared.report.ReportLines.{ReportLines}
 use Rattle.text.specs.declared.trace.Event.the-variants.{Request, Response}
 use Rattle.text.specs.declared.trace.Event.{Event}
 use Rattle.model.specs.Audit.{from8, from6, from4}
-use Rattle.model.specs.Requests.{row4, row4Open, row6}
+use Rattle.model.specs.Requests.{row4, row6}
 use Rattle.model.specs.Claims.{row7}
 use Rattle.model.specs.Batch.{Batch, batchOf}
 use Rattle.model.specs.Checks.{Verdict, verdict, faultOr, firstFault, badLine, contents}
@@ -77,23 +77,17 @@ module _ (opening : ℕ → Content) (table : List Program) (events : List Event
   at-4 line e = let v : verdict 4 line ≡ rows4 = holds verdict 4 (row4 (known table) events) _ line e in ap (counted opening table events lines) v
 
   module _ (d : row4 (known table) events ≡ none) where
-    at-4-open : (line : ℕ) → row4Open events ≡ some line → refusal 4 line ≡ auditedTrace opening table events report
-    at-4-open line e =
-        let v : verdict 4 line ≡ rows4 = holds verdict 4 (row4Open events) _ line e ∙ passes verdict 4 (row4 (known table) events) _ d in
-        ap (counted opening table events lines) v
+    past-4 : faultOr verdict 5 (badLine report) (rows6 opening table events lines) ≡ rows4
+    past-4 = passes verdict 4 (row4 (known table) events) _ d
 
-    module _ (f : row4Open events ≡ none) where
-      past-4 : faultOr verdict 5 (badLine report) (rows6 opening table events lines) ≡ rows4
-      past-4 = passes verdict 4 (row4Open events) _ f ∙ passes verdict 4 (row4 (known table) events) _ d
+    at-5 : (line : ℕ) → report ≡ unreadable line → refusal 5 line ≡ auditedTrace opening table events report
+    at-5 line e =
+        ap (counted opening table events lines) (holds verdict 5 (badLine report) (rows6 opening table events lines) line (ap badLine e) ∙ past-4)
 
-      at-5 : (line : ℕ) → report ≡ unreadable line → refusal 5 line ≡ auditedTrace opening table events report
-      at-5 line e =
-          ap (counted opening table events lines) (holds verdict 5 (badLine report) (rows6 opening table events lines) line (ap badLine e) ∙ past-4)
-
-      pub past-5 : (x : Report) → report ≡ readable x → auditedReport opening table events x ≡ auditedTrace opening table events report
-      past-5 x e =
-          ap (λ y. auditedReport opening table events (contents noLines y)) (sym e)
-          ∙ ap (counted opening table events lines) (passes verdict 5 (badLine report) (rows6 opening table events lines) (ap badLine e) ∙ past-4)
+    pub past-5 : (x : Report) → report ≡ readable x → auditedReport opening table events x ≡ auditedTrace opening table events report
+    past-5 x e =
+        ap (λ y. auditedReport opening table events (contents noLines y)) (sym e)
+        ∙ ap (counted opening table events lines) (passes verdict 5 (badLine report) (rows6 opening table events lines) (ap badLine e) ∙ past-4)
 
 -- the program numbers that are known, by their count
 pub known-in : (table : List Program) (k : ℕ) (events : List Event) (o : Option ℕ) → length table ≡ k → row4 (λ prog. ltb prog k) events ≡ o →
@@ -120,29 +114,23 @@ module _ (k : ℕ) (held : List ℕ) (t : ℕ) (s : List ℕ) where
       (opening : ℕ → Content) (table : List Program) → length table ≡ k → refusal 4 line ≡ auditedTrace opening table (eventsIn held t) (readReport s)
   refused-4 line e opening table l = at-4 opening table (eventsIn held t) (readReport s) line (known-in table k (eventsIn held t) (some line) l e)
 
-  module _ (d : row4 (λ prog. ltb prog k) (eventsIn held t) ≡ none) where
-    pub refused-4-open : (line : ℕ) → row4Open (eventsIn held t) ≡ some line →
-        (opening : ℕ → Content) (table : List Program) → length table ≡ k → refusal 4 line ≡ auditedTrace opening table (eventsIn held t) (readReport s)
-    refused-4-open line e opening table l = at-4-open opening table (eventsIn held t) (readReport s) (known-in table k (eventsIn held t) none l d) line e
+  module _ (d : row4 (λ prog. ltb prog k) (eventsIn held t) ≡ none) (r : ReportLines) (ofs logs : List ℕ) (h : ReportIs s r ofs logs) where
+    pub refused-5 : (line : ℕ) → r ≡ BadLine line →
+        (opening : ℕ → Content) (table : List Program) → length table ≡ k → refusal 5 line ≡ auditedTrace opening table (eventsIn held t) (readReport s)
+    refused-5 line e opening table l =
+        at-5 opening table (eventsIn held t) (readReport s) (known-in table k (eventsIn held t) none l d) line (report-bad s r ofs logs h line e)
 
-    module _ (f : row4Open (eventsIn held t) ≡ none) (r : ReportLines) (ofs logs : List ℕ) (h : ReportIs s r ofs logs) where
-      pub refused-5 : (line : ℕ) → r ≡ BadLine line →
-          (opening : ℕ → Content) (table : List Program) → length table ≡ k → refusal 5 line ≡ auditedTrace opening table (eventsIn held t) (readReport s)
-      refused-5 line e opening table l =
-          at-5 opening table (eventsIn held t) (readReport s) (known-in table k (eventsIn held t) none l d) f line (report-bad s r ofs logs h line e)
-
-      pub past-report : (m n : ℕ) → r ≡ Counts m n → (c : Checked) → ReportChecked (arrays held t ofs m logs n) c →
-          BatchChecked k held t s ofs logs c
-      past-report m n e (Refused row line) g =
-          (g .0, λ opening table l. g .1 opening table ∙ past-5 opening table (eventsIn held t) (readReport s) (known-in table k (eventsIn held t) none l d) f _ (report-read s r ofs logs h m n e))
-      past-report m n e (checked.Counts p q) g =
-          let b = report-few s r ofs logs h m n e in
-          rw (g .0, g .1)
-          (record {
-            lines4 = d;
-            answered4 = f;
-            read = report-read s r ofs logs h m n e;
-            fewOfs = b .0;
-            fewEntries = b .1;
-            unbroken = g .2;
-          })
+    pub past-report : (m n : ℕ) → r ≡ Counts m n → (c : Checked) → ReportChecked (arrays held t ofs m logs n) c →
+        BatchChecked k held t s ofs logs c
+    past-report m n e (Refused row line) g =
+        (g .0, λ opening table l. g .1 opening table ∙ past-5 opening table (eventsIn held t) (readReport s) (known-in table k (eventsIn held t) none l d) _ (report-read s r ofs logs h m n e))
+    past-report m n e (checked.Counts p q) g =
+        let b = report-few s r ofs logs h m n e in
+        rw (g .0, g .1)
+        (record {
+          lines4 = d;
+          read = report-read s r ofs logs h m n e;
+          fewOfs = b .0;
+          fewEntries = b .1;
+          unbroken = g .2;
+        })

@@ -78,7 +78,7 @@ module _ (ps : Programs) (here : Arrays) (traced : TraceHeld ps (here .t)) (s : 
   ready =
       let r = report-in-range s (linesIn here) (h .read) in
       record {
-        none-to-7 = (lines4, h .answered4, h .unbroken .row6-none, h .unbroken .row7-none);
+        none-to-7 = (lines4, h .unbroken .row6-none, h .unbroken .row7-none);
         programs = λ prog e. omega (arith, below prog e, traced .programs);
         objects = r .objects;
         counts = r .counts;
@@ -103,7 +103,7 @@ module _ (ps : Programs) (here : Arrays) (traced : TraceHeld ps (here .t)) (s : 
         let u = (rw w at fault-is)
         ∙ past-7 opening table (traceIn here) (linesIn here) (h .unbroken .row6-none) (h .unbroken .row7-none) in
         g ∙ (λ i. audited (u i) (c i) (o i))
-        ∙ past-5 opening table (traceIn here) (readReport s) lines4 (h .answered4) (linesIn here) (h .read)
+        ∙ past-5 opening table (traceIn here) (readReport s) lines4 (linesIn here) (h .read)
 
     -- a batch without a fault has an order, and places that order its items give it
     pub no-row-9 : f .row ≡ 0 → row9 batch ≡ none

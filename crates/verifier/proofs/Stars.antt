@@ -69,6 +69,10 @@ reportC of2 log1 = reportWith of2 log1 "log=0,2,2,6,0,1" "log=1,1,2,6,0,1"
 abbrev caseC : Case
 caseC = case programsABC (traceC "response=1,0,1" "response=2,0,1") (reportC "of=2,1,2" "log=0,1,1,7,0,1") (accepted 2 4)
 
+-- C's with the lines of object 0 exchanged
+abbrev reportA : List String
+reportA = "of=1,0,2" ∷ "of=2,1,2" ∷ "log=0,2,2,6,0,0" ∷ "log=0,1,1,7,0,1" ∷ "log=1,2,1,7,0,1" ∷ "log=1,1,2,6,0,1" ∷ []
+
 -- C with another value in its first log line, and all three texts empty
 abbrev valueChanged : Case
 valueChanged = case programsABC (traceC "response=1,0,1" "response=2,0,1") (reportC "of=2,1,2" "log=0,1,1,7,0,2") (refused 10 1)
@@ -83,8 +87,7 @@ cases =
     ∷ case programsABC (traceC "response=1,0,0" "response=2,0,0")
     ("of=1,0,2" ∷ "of=2,1,2" ∷ "log=0,2,2,6,0,0" ∷ "log=0,1,1,7,0,1" ∷ "log=1,1,2,6,0,0" ∷ "log=1,2,1,7,0,1" ∷ []) (refused 9 0)
     -- A
-    ∷ case programsABC ("request=1,0,0,0" ∷ "response=1,0,1" ∷ "request=2,1,0,0" ∷ "response=2,0,0" ∷ [])
-    ("of=1,0,2" ∷ "of=2,1,2" ∷ "log=0,2,2,6,0,0" ∷ "log=0,1,1,7,0,1" ∷ "log=1,2,1,7,0,1" ∷ "log=1,1,2,6,0,1" ∷ []) (refused 9 0)
+    ∷ case programsABC ("request=1,0,0,0" ∷ "response=1,0,1" ∷ "request=2,1,0,0" ∷ "response=2,0,0" ∷ []) reportA (refused 9 0)
     -- C's single changes: the first log value, the second response, the second group
     ∷ valueChanged
     ∷ case programsABC (traceC "response=1,0,1" "response=2,0,5") (reportC "of=2,1,2" "log=0,1,1,7,0,1") (refused 11 2)
@@ -132,6 +135,49 @@ unfolding auditOf readPrograms readTrace readReport readText readLines addLine l
     parts onto within addProgram addDo addRequest addResponse addOf addLog go effectAs upd bump
 reads-shown = refl
 
+-- ── requests left open ──
+-- A with request 1 left open: nothing of it comes before request 2 then
+abbrev openA : Case
+openA = case programsABC ("request=1,0,0,0" ∷ "request=2,1,0,0" ∷ "response=2,0,0" ∷ []) reportA (accepted 2 4)
+
+-- a program that replies at once
+abbrev pub replies : List String
+replies = "program=0" ∷ "do=0,0,0,0" ∷ []
+
+-- its one operation is the 256th instruction
+abbrev lastReads : List String
+lastReads =
+    "program=0" ∷ "do=1,4,0,0" ∷ "do=1,3,1,0" ∷ "do=1,2,126,0" ∷ "do=3,2,2,3" ∷ "do=5,2,3,0" ∷ "do=6,0,1,0" ∷ "do=0,0,0,0" ∷ []
+
+-- one request of program 0
+abbrev lone : List String
+lone = "request=1,0,0,0" ∷ []
+
+abbrev opens : List Case
+opens =
+    -- before the first operation, behind it, behind the last
+    case programsABC lone ("of=1,0,0" ∷ []) (accepted 1 0)
+    ∷ case programsABC lone ("of=1,0,1" ∷ "log=0,1,1,7,0,1" ∷ []) (accepted 1 1)
+    ∷ case programsABC lone ("of=1,0,2" ∷ "log=0,1,1,7,0,1" ∷ "log=1,1,2,6,0,0" ∷ []) (accepted 1 2)
+    ∷ openA
+    -- an operation differs; the program replies, and is cut off, before the operations that the count says
+    ∷ case programsABC lone ("of=1,0,1" ∷ "log=0,1,1,7,0,2" ∷ []) (refused 10 1)
+    ∷ case replies lone ("of=1,0,1" ∷ "log=0,1,1,7,0,1" ∷ []) (refused 10 1)
+    ∷ case lastReads lone ("of=1,0,2" ∷ "log=1,1,1,6,0,0" ∷ "log=1,1,2,6,0,0" ∷ []) (refused 10 1)
+    -- in one group: of one program, of two programs, one answered
+    ∷ case programsABC ("request=1,0,0,0" ∷ "request=2,0,0,0" ∷ []) ("of=1,0,0" ∷ "of=2,0,0" ∷ []) (accepted 2 0)
+    ∷ case programsABC ("request=1,0,0,0" ∷ "request=2,1,0,0" ∷ []) ("of=1,0,0" ∷ "of=2,0,0" ∷ []) (refused 12 2)
+    ∷ case replies ("request=1,0,0,0" ∷ "response=1,0,0" ∷ "request=2,0,0,0" ∷ []) ("of=1,0,0" ∷ "of=2,0,0" ∷ []) (refused 12 2)
+    -- and one that was cut off right behind that operation
+    ∷ case lastReads ("request=1,0,0,0" ∷ "response=1,1,0" ∷ "request=2,0,0,0" ∷ [])
+    ("of=1,0,1" ∷ "of=2,0,1" ∷ "log=1,1,1,6,0,0" ∷ "log=1,2,1,6,0,0" ∷ []) (accepted 2 2)
+    ∷ []
+
+left-open : map audits opens ≡ map (λ c. c .finds) opens
+unfolding auditOf readPrograms readTrace readReport readText readLines addLine lineOf fieldsOf fieldOf prefix numberOf digitsOf pushOf
+    parts onto within addProgram addDo addRequest addResponse addOf addLog go effectAs upd bump
+left-open = refl
+
 -- ── the bill ──
 -- at 0, about the whole hundreds, and at most; of a refusal nothing
 bills : map (λ n. let a = audited (verdict 0 0) 1 n in (a .operations ∷ a .blocks ∷ a .rest ∷ [])) (0 ∷ 4 ∷ 99 ∷ 100 ∷ 101 ∷ 200 ∷ 1024 ∷ [])
@@ -152,9 +198,9 @@ laterFirst =
     ("request=1,0,0,0" ∷ "request=2,1,0,0" ∷ "response=2,0,0" ∷ "response=1,0,1" ∷ [])
     ("of=1,0,1" ∷ "of=2,1,2" ∷ "log=1,2,1,7,0,1" ∷ "log=0,2,2,6,0,0" ∷ "log=1,1,1,6,0,1" ∷ []) (accepted 2 3)
 
--- of C, of empty texts, of a refusal, and of the batch above
+-- of C, of empty texts, of a refusal, of the batch above, and of one with a request left open, whose response is no event
 printed : map (λ c. printedText (text (c .programLines)) (text (c .traceLines)) (text (c .reportLines)))
-    (caseC ∷ allEmpty ∷ valueChanged ∷ laterFirst ∷ [])
+    (caseC ∷ allEmpty ∷ valueChanged ∷ laterFirst ∷ openA ∷ [])
     ≡ text (
     "verdict=0" ∷ "line=0" ∷ "requests=2" ∷ "operations=4" ∷ "blocks=0" ∷ "rest=4"
     ∷ "event=1" ∷ "op=1,1" ∷ "event=2" ∷ "op=2,1" ∷ "op=2,2" ∷ "op=1,2" ∷ "event=3" ∷ "event=4" ∷ [])
@@ -163,6 +209,9 @@ printed : map (λ c. printedText (text (c .programLines)) (text (c .traceLines))
     ∷ text (
     "verdict=0" ∷ "line=0" ∷ "requests=2" ∷ "operations=3" ∷ "blocks=0" ∷ "rest=3"
     ∷ "event=1" ∷ "event=2" ∷ "op=2,1" ∷ "op=2,2" ∷ "op=1,1" ∷ "event=3" ∷ "event=4" ∷ [])
+    ∷ text (
+    "verdict=0" ∷ "line=0" ∷ "requests=2" ∷ "operations=4" ∷ "blocks=0" ∷ "rest=4"
+    ∷ "event=1" ∷ "event=2" ∷ "op=2,1" ∷ "op=2,2" ∷ "op=1,1" ∷ "op=1,2" ∷ "event=3" ∷ [])
     ∷ []
 unfolding auditOf readPrograms readTrace readReport readText readLines addLine lineOf fieldsOf fieldOf prefix numberOf digitsOf pushOf
     parts onto within addProgram addDo addRequest addResponse addOf addLog go effectAs upd bump
@@ -170,9 +219,6 @@ unfolding auditOf readPrograms readTrace readReport readText readLines addLine l
 printed = refl
 
 -- ── the small examples of rows 1 to 8 ──
-abbrev pub replies : List String
-replies = "program=0" ∷ "do=0,0,0,0" ∷ []
-
 abbrev answered : List String
 answered = "request=1,0,0,0" ∷ "response=1,0,0" ∷ []
 
@@ -186,11 +232,11 @@ small =
     ∷ case replies answered [] (refused 6 1)
     ∷ case replies answered ("of=1,0,0" ∷ "log=0,1,1,7,0,1" ∷ []) (refused 7 2)
     ∷ case replies answered ("of=1,0,1" ∷ []) (refused 8 1)
-    -- a request never answered; the earliest, behind the faults of lines
-    ∷ case replies ("request=1,0,0,0" ∷ "request=2,0,0,0" ∷ "response=2,0,0" ∷ []) [] (refused 4 1)
+    -- a rid used twice, though its request is open; an unknown program
+    ∷ case replies ("request=1,0,0,0" ∷ "request=1,0,0,0" ∷ []) [] (refused 4 2)
     ∷ case replies ("request=1,0,0,0" ∷ "request=2,1,0,0" ∷ []) [] (refused 4 2)
     -- row 5 stands between rows 4 and 6
-    ∷ case replies ("request=1,0,0,0" ∷ []) ("of=1,0" ∷ []) (refused 4 1)
+    ∷ case replies ("request=1,1,0,0" ∷ []) ("of=1,0" ∷ []) (refused 4 1)
     ∷ case replies answered ("of=2,0,0" ∷ "log=0" ∷ []) (refused 5 2)
     ∷ []
 

@@ -17,7 +17,7 @@ use Rattle.text.specs.Trace.{isRequest}
 use Rattle.text.specs.declared.programs.Program.{Program}
 use Rattle.text.specs.declared.trace.Event.{Event}
 use Rattle.model.specs.Audit.{from6, from4}
-use Rattle.model.specs.Requests.{row4, row4Open, row6}
+use Rattle.model.specs.Requests.{row4, row6}
 use Rattle.model.specs.Claims.{row7}
 use Rattle.model.specs.Batch.{batchOf}
 use Rattle.model.specs.Checks.{firstFault, contents}
@@ -76,7 +76,6 @@ ReportChecked a (Counts p q) = (p ≡ a .m) × (q ≡ a .n) × Unbroken (traceIn
 -- a report that was read, where no row from 4 to 7 holds
 pub record BatchHeld (k : ℕ) (report : List ℕ) (a : Arrays) : Type 0 where
   pub lines4 : row4 (λ prog. ltb prog k) (traceIn a) ≡ none
-  pub answered4 : row4Open (traceIn a) ≡ none
   pub read : readReport report ≡ readable (linesIn a)
   pub fewOfs : a .m ≤ mostOfs
   pub fewEntries : a .n ≤ mostEntries

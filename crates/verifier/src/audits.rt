@@ -12,7 +12,6 @@ use machine::check_rules;
 use replay::Fault;
 use replay::judge;
 use rows::row_4;
-use rows::row_4_open;
 use rows::row_6;
 use rows::row_7;
 use text::ENTRY_ROWS;
@@ -120,12 +119,6 @@ fn check_batch(
     ensures { λ r. ⌜ BatchChecked programs (now (events .entry)) t (now (report .entry)) (now (ofs .exit)) (now (logs .exit)) r ⌝ }
 {
     match row_4(events, t, programs) {
-        Ruling::Broken(line) => {
-            return Checked::Refused(4, line);
-        }
-        Ruling::Kept => {}
-    }
-    match row_4_open(events, t) {
         Ruling::Broken(line) => {
             return Checked::Refused(4, line);
         }

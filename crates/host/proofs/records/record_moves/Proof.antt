@@ -4,7 +4,7 @@ use mathlib.Core.Path.{refl}
 use lib.ListN.{length-replicate}
 use Rattle.machine.specs.Objects.{atStart}
 use Rattle.machine.proofs.Performing.{objects-start}
-use Rattle.host.proofs.Recording.{refuses, ready, at-14, at-15, past-15, few-lines, record-as}
+use Rattle.host.proofs.Recording.{refuses, ready, at-14, past-14, few-lines, record-as}
 use borrow.Author.Needs.{needs}
 use Rattle.host.proofs.records.record_moves.Statement.{statement}
 use Rattle.host.proofs.records.record_moves.Tie as tie
@@ -15,58 +15,30 @@ run-moves-requires c κs =
     ready _ _ _ _ _ _ _ _ _ (at-slots .before .before .before .pre) refl (length-replicate {A = ℕ} 768 0) (length-replicate {A = ℕ} 192 0)
     (length-replicate {A = ℕ} 640 0) (length-replicate {A = ℕ} 6144 0) (length-replicate {A = ℕ} 8192 0)
 
--- the way back from where the schedule was run
-module _ (c : tie.After-run-moves) where
-  abbrev at-slots : tie.After-slots
-  at-slots = c .before .before .before .before .before .before .before .before
-
-  abbrev start : tie.Start
-  start = at-slots .before .before .before
-
 returns : tie.Need-returns
 returns c =
     let r = c .before .before .before .before in
     refuses _ _ _ 14 _ _ (at-14 atStart _ _ _ _ _ _ _ _ _ (r .run-moves .ensures atStart (objects-start _ (length-replicate {A = ℕ} 8192 0)))
     _ (c .before .before .line .given .1)) (c .refused .ensures)
 
-row-15-requires : tie.Need-row-15-requires
-row-15-requires c κs =
-    let at-run-moves = c .before .before .before .before .before in
-    start at-run-moves .pre .movesRoom
-
--- and from where row 15 was looked at
-module _ (c : tie.After-row-15) where
-  abbrev at-c : tie.After-c
-  at-c = c .before .before .before .before
-
-  abbrev at-run : tie.After-run-moves
-  at-run = at-c .before .before
-
-returns-2 : tie.Need-returns-2
-returns-2 c =
-    let f = c .before .before .before .before in
-    refuses _ _ _ 15 _ _
-    (at-15 atStart _ _ _ _ _ _ _ _ _ (at-run f .run-moves .ensures atStart (objects-start _ (length-replicate {A = ℕ} 8192 0)))
-    _ (at-c f .c .given .1) (start (at-run f) .pre) _ (f .row-15 .ensures) _ (c .before .before .line2 .given .1))
-    (c .refused2 .ensures)
-
 by-object-requires : tie.Need-by-object-requires
 by-object-requires c κs =
-    let f = c .before .before .before .before in (
-      few-lines atStart _ _ _ _ 0 0 _ _ _ (at-run f .run-moves .ensures atStart (objects-start _ (length-replicate {A = ℕ} 8192 0)))
-          _ (at-c f .c .given .1),
+    let at-c = c .before .before .before in
+    let r = at-c .before .before in (
+      few-lines atStart _ _ _ _ 0 0 _ _ _ (r .run-moves .ensures atStart (objects-start _ (length-replicate {A = ℕ} 8192 0)))
+          _ (at-c .c .given .1),
       (length-replicate {A = ℕ} 6144 0),
     )
 
-returns-3 : tie.Need-returns-3
-returns-3 c =
+returns-2 : tie.Need-returns-2
+returns-2 c =
     let at-write = c .before .before .before .before in
     let b = at-write .before .before .before .before .before .before in
-    let told = b .before .before .before in
-    let f = told .before .before in
+    let at-c = b .before .before .before .before in
+    let r = at-c .before .before in
     record-as _ _ _ _ _ _ _
-    (past-15 atStart _ _ _ _ _ _ _ _ _ (at-run f .run-moves .ensures atStart (objects-start _ (length-replicate {A = ℕ} 8192 0)))
-    _ (at-c f .c .given .1) (start (at-run f) .pre) _ (f .row-15 .ensures) (told .enum-told .given .1) _ _ (b .by-object .ensures))
+    (past-14 atStart _ _ _ _ _ _ _ _ _ (r .run-moves .ensures atStart (objects-start _ (length-replicate {A = ℕ} 8192 0)))
+    _ (at-c .c .given .1) _ _ (b .by-object .ensures))
     (at-write .write-texts .ensures)
 
 pub record-moves-spec : {M : Type 1} → statement M
@@ -78,13 +50,8 @@ record-moves-spec =
     (λ c κs. search needs)
     returns
     (λ c. search needs)
-    row-15-requires
-    (λ c. search needs)
-    (λ c κs. search needs)
-    returns-2
-    (λ c. search needs)
     by-object-requires
     (λ c κs. search needs)
     (λ c. search needs)
     (λ c. search needs)
-    returns-3)
+    returns-2)

@@ -20,8 +20,11 @@ loop-holds c = judging-start _ _ _ _ _ _ (c .pre .0) refl refl refl
 
 -- the way back from where the request was replayed
 module _ (c : tie.After-replay Inv-loop μ-loop) where
-  abbrev at-response : tie.After-event-of2 Inv-loop μ-loop
-  at-response = c .before .before .before .before
+  abbrev at-left-open : tie.After-left-open Inv-loop μ-loop
+  at-left-open = c .before .before .before
+
+  abbrev at-response : tie.After-response-of Inv-loop μ-loop
+  at-response = at-left-open .before
 
   abbrev at-of : tie.After-of-at Inv-loop μ-loop
   at-of = at-response .before .before .before
@@ -44,20 +47,20 @@ module _ (c : tie.After-row-of Inv-loop μ-loop) where
       let a = at-loop at-replay .before .args in
       let l = at-loop at-replay .loop in
       Step (a .t1 .table) (arrays (a .events .now) (a .t) (a .ofs .now) (a .m) (a .logs .now) (a .n)) (a .answers .now)
-      (at-of at-replay .of-at .result) (l .k) (l .progs) (l .lengths) (l .paths) (at-replay .replay .last .1 .1 .1 .1 .1 .1 .1 .1 .1 .0)
+      (at-of at-replay .of-at .result) (l .k) (l .progs) (l .lengths) (l .paths) (at-replay .replay .last .1 .1 .1 .1 .1 .1 .1 .1 .1 .1 .0)
       (at-response at-replay .before .arrival-at .result) (at-done .done-of .result) (c .row-of .result)
   looked =
       record {
         s = _;
-        s′ = _;
         f = _;
-        reply = _;
+        reply = at-response at-replay .response-of .result;
+        isOpen = _;
         program = _;
         end = _;
         requests = at-response at-replay .before .before .event-of .ensures;
         starts = at-response at-replay .before .arrival-at .ensures;
-        responses = at-response at-replay .event-of2 .ensures;
-        replies = at-replay .before .before .before .reply-at .ensures;
+        replies = at-response at-replay .response-of .ensures;
+        opened = at-left-open at-replay .left-open .ensures;
         programs = refl;
         replays = at-replay .replay .ensures;
         done = at-done .done-of .ensures;
@@ -67,8 +70,10 @@ module _ (c : tie.After-row-of Inv-loop μ-loop) where
 
 replay-requires : tie.Need-replay-requires Inv-loop μ-loop
 replay-requires c κs =
-    let h = c .before .before .before .before .before .before .before .before .before in
-    (omega (arith, h .loop .inv .few), h .loop .inv .paths-room, h .before .pre .1)
+    let at-response = c .before .before .before in
+    let at-of = at-response .before .before .before in
+    let at-loop = at-of .before .before .before in
+    (omega (arith, at-loop .loop .inv .few), at-loop .loop .inv .paths-room, at-loop .before .pre .1)
 
 row-of-requires : tie.Need-row-of-requires Inv-loop μ-loop
 row-of-requires c κs =

@@ -1,7 +1,7 @@
 -- `check_batch` meets its contract.
 use native.Mathlib.Omega.{arith}
 use Rattle.machine.proofs.Rulings.{broken, kept}
-use Rattle.verifier.proofs.Rows4To7.{refused-4, refused-4-open, refused-5, report-few, past-report}
+use Rattle.verifier.proofs.Rows4To7.{refused-4, refused-5, report-few, past-report}
 use borrow.Author.Needs.{needs}
 use Rattle.verifier.proofs.audits.check_batch.Statement.{statement}
 use Rattle.verifier.proofs.audits.check_batch.Tie as tie
@@ -17,29 +17,14 @@ returns c =
 
 returns-2 : tie.Need-returns-2
 returns-2 c =
-    let at-row-4-open = c .before .before .before in
-    let at-enum-told = at-row-4-open .before in
-    let at-row-4 = at-enum-told .before .before in
-    let a = at-row-4 .before .before .args in (
-      λ e. omega arith,
-      refused-4-open (a .programs) (a .events .now) (a .t) (a .report .now)
-          (kept _ _ (at-row-4 .row-4 .ensures) (at-enum-told .enum-told .given .1)) _
-          (broken _ _ _ (at-row-4-open .row-4-open .ensures) (c .before .line2 .given .1)),
-    )
-
-returns-3 : tie.Need-returns-3
-returns-3 c =
     let at-read-report = c .before .before .before in
-    let at-enum-told2 = at-read-report .before .before .before in
-    let at-row-4-open = at-enum-told2 .before .before in
-    let at-enum-told = at-row-4-open .before in
+    let at-enum-told = at-read-report .before .before .before in
     let at-row-4 = at-enum-told .before .before in
     let a = at-row-4 .before .before .args in (
       λ e. omega arith,
       refused-5 (a .programs) (a .events .now) (a .t) (a .report .now)
-          (kept _ _ (at-row-4 .row-4 .ensures) (at-enum-told .enum-told .given .1))
-          (kept _ _ (at-row-4-open .row-4-open .ensures) (at-enum-told2 .enum-told2 .given .1)) _ _ _ (at-read-report .read-report .ensures) _
-          (c .before .line3 .given .1),
+          (kept _ _ (at-row-4 .row-4 .ensures) (at-enum-told .enum-told .given .1)) _ _ _ (at-read-report .read-report .ensures) _
+          (c .before .line2 .given .1),
     )
 
 check-report-requires : tie.Need-check-report-requires
@@ -47,18 +32,15 @@ check-report-requires c κs =
     let at-m = c .before .before .before in
     report-few _ _ _ _ (at-m .before .before .read-report .ensures) _ _ (at-m .m .given .1)
 
-returns-4 : tie.Need-returns-4
-returns-4 c =
+returns-3 : tie.Need-returns-3
+returns-3 c =
     let at-m = c .before .before .before .before in
     let at-read-report = at-m .before .before in
-    let at-enum-told2 = at-read-report .before .before .before in
-    let at-row-4-open = at-enum-told2 .before .before in
-    let at-enum-told = at-row-4-open .before in
+    let at-enum-told = at-read-report .before .before .before in
     let at-row-4 = at-enum-told .before .before in
     let a = at-row-4 .before .before .args in
     past-report (a .programs) (a .events .now) (a .t) (a .report .now)
-    (kept _ _ (at-row-4 .row-4 .ensures) (at-enum-told .enum-told .given .1))
-    (kept _ _ (at-row-4-open .row-4-open .ensures) (at-enum-told2 .enum-told2 .given .1)) _ _ _ (at-read-report .read-report .ensures) _ _
+    (kept _ _ (at-row-4 .row-4 .ensures) (at-enum-told .enum-told .given .1)) _ _ _ (at-read-report .read-report .ensures) _ _
     (at-m .m .given .1) (c .check-report .result) (c .check-report .ensures)
 
 pub check-batch-spec : {M : Type 1} → statement M
@@ -73,9 +55,5 @@ check-batch-spec =
     (λ c. search needs)
     returns-2
     (λ c. search needs)
-    (λ c κs. search needs)
-    (λ c. search needs)
-    returns-3
-    (λ c. search needs)
     check-report-requires
-    returns-4)
+    returns-3)
