@@ -98,15 +98,18 @@ pub struct Batch {
     pub programs: Vec<Program>,
     pub trace: Vec<Event>,
     pub report: Report,
-    /// The requests of the trace in arrival order, each with its response.
-    pub requests: Vec<(Request, Response)>,
+    /// The requests of the trace in arrival order.
+    pub requests: Vec<Arrived>,
 }
+
+/// A request with its response; an open one has none.
+pub type Arrived = (Request, Option<Response>);
 
 /// The texts read and held against rows 1 to 6.
 pub fn read_batch(programs: &[u8], trace: &[u8], report: &[u8]) -> Result<Batch, Fault> {
     let programs = checked_programs(programs)?;
     let trace = read_trace(trace).map_err(Fault::unreadable(3))?;
-    let requests = answered_requests(&trace, programs.len())?;
+    let requests = arrived_requests(&trace, programs.len())?;
     let report = read_report(report).map_err(Fault::unreadable(5))?;
     one_of_line_per_request(&report.of, &requests)?;
     Ok(Batch {
@@ -126,8 +129,8 @@ pub fn checked_programs(text: &[u8]) -> Result<Vec<Program>, Fault> {
     }
 }
 
-/// Row 4: faults of lines first, then the earliest request that was never answered.
-fn answered_requests(trace: &[Event], programs: usize) -> Result<Vec<(Request, Response)>, Fault> {
+/// Row 4; where it does not hold, the requests in arrival order.
+fn arrived_requests(trace: &[Event], programs: usize) -> Result<Vec<Arrived>, Fault> {
     let mut requests: Map<u64, Request> = Map::default();
     let mut responses: Map<u64, Response> = Map::default();
     for (line, event) in (1..).zip(trace) {
@@ -145,18 +148,15 @@ fn answered_requests(trace: &[Event], programs: usize) -> Result<Vec<(Request, R
             return Err(Fault::new(4, line));
         }
     }
-    let mut answered = Vec::new();
-    for (line, event) in (1..).zip(trace) {
-        if let Event::Request(request) = event {
-            let response = responses.get(&request.rid).ok_or(Fault::new(4, line))?;
-            answered.push((*request, *response));
-        }
-    }
-    Ok(answered)
+    let arrived = trace.iter().filter_map(|event| match event {
+        Event::Request(request) => Some((*request, responses.get(&request.rid).copied())),
+        Event::Response(_) => None,
+    });
+    Ok(arrived.collect())
 }
 
 /// Row 6.
-fn one_of_line_per_request(of: &[OfLine], requests: &[(Request, Response)]) -> Result<(), Fault> {
+fn one_of_line_per_request(of: &[OfLine], requests: &[Arrived]) -> Result<(), Fault> {
     for (index, line) in of.iter().enumerate() {
         let expected = requests.get(index).map(|(request, _)| request.rid);
         if expected != Some(line.rid) {
@@ -212,7 +212,7 @@ fn comes_before(batch: &Batch, claims: &Claims) -> Graph {
             |event| matches!(event, Event::Response(r) if r.rid == of.rid),
         );
         let operations = (1..=of.count).map(|num| events + claims[&(of.rid, num)]);
-        graph.chain([request].into_iter().chain(operations).chain([response]));
+        graph.chain(request.into_iter().chain(operations).chain(response));
     }
     for object in 0..16 {
         let lines = batch.report.log.iter().enumerate();
@@ -225,11 +225,9 @@ fn comes_before(batch: &Batch, claims: &Claims) -> Graph {
     graph
 }
 
-fn place_of(trace: &[Event], wanted: impl Fn(&Event) -> bool) -> usize {
-    trace
-        .iter()
-        .position(wanted)
-        .expect("row 4 leaves one request and one response for each rid")
+/// Where the wanted event stands; the response of an open request stands nowhere.
+fn place_of(trace: &[Event], wanted: impl Fn(&Event) -> bool) -> Option<usize> {
+    trace.iter().position(wanted)
 }
 
 pub struct Graph {
@@ -297,12 +295,12 @@ impl Graph {
 fn replay_all(batch: &Batch, claims: &Claims) -> Result<(), Fault> {
     let answers = answers(&batch.report.log);
     let mut first_paths: Map<u64, Path> = Map::default();
-    for (index, (request, response)) in batch.requests.iter().enumerate() {
+    for (index, arrived) in batch.requests.iter().enumerate() {
         let line = index + 1;
         let of = &batch.report.of[index];
         let replayed =
-            replay(batch, claims, &answers, request, of.count).ok_or(Fault::new(10, line))?;
-        if replayed.response != *response {
+            replay(batch, claims, &answers, arrived, of.count).ok_or(Fault::new(10, line))?;
+        if replayed.response != arrived.1 {
             return Err(Fault::new(11, line));
         }
         let first = first_paths
@@ -324,23 +322,27 @@ fn answers(log: &[LogLine]) -> Vec<u64> {
 }
 
 struct Replayed {
-    response: Response,
+    /// None of an open request: the instructions behind its last operation are not run.
+    response: Option<Response>,
     path: Path,
 }
 
-/// The request run against the logs; `None` where an operation or the count differs.
+/// The request run against the logs, an open one no further than the operation that its count numbers; `None`
+/// where an operation or the count differs.
 fn replay(
     batch: &Batch,
     claims: &Claims,
     answers: &[u64],
-    request: &Request,
+    (request, answered): &Arrived,
     count: u64,
 ) -> Option<Replayed> {
+    let rid = request.rid;
     let mut running = Running::open(&batch.programs, request);
-    loop {
+    let mut response = None;
+    while response.is_none() && (answered.is_some() || running.operations() < count) {
         match running.go_on() {
             Pause::Operation(operation) => {
-                let (rid, num) = (request.rid, running.operations());
+                let num = running.operations();
                 let index = *claims.get(&(rid, num))?;
                 let answer = answers[index];
                 if batch.report.log[index] != operation.log_line(rid, num, answer) {
@@ -348,17 +350,11 @@ fn replay(
                 }
                 running.answer(answer);
             }
-            Pause::End { status, value } => {
-                let response = Response {
-                    rid: request.rid,
-                    status,
-                    value,
-                };
-                let path = running.path();
-                return (running.operations() == count).then_some(Replayed { response, path });
-            }
+            Pause::End { status, value } => response = Some(Response { rid, status, value }),
         }
     }
+    let path = running.path();
+    (running.operations() == count).then_some(Replayed { response, path })
 }
 
 #[cfg(test)]

@@ -163,6 +163,11 @@ pub fn not_accepted(
         .then(|| format!("the host wrote it, and {audited:?}, expected {expected:?}"))
 }
 
+/// Whether a trace that keeps row 4 has a request without a response.
+pub fn leaves_open(trace: &[u8]) -> bool {
+    lines_with(trace, b"request=") > lines_with(trace, b"response=")
+}
+
 /// How many lines of a text begin with this word.
 pub fn lines_with(text: &[u8], word: &[u8]) -> usize {
     let lines = text.split(|&byte| byte == b'\n');

@@ -43,15 +43,8 @@ fn run(
     let programs = checked_programs(programs)?;
     let schedule = read_schedule(schedule).map_err(Fault::unreadable(13))?;
     let mut host = Host::new(&programs);
-    let mut arrival_lines = Vec::new();
     for (line, entry) in (1..).zip(&schedule) {
-        if let Entry::Arrive(_) = entry {
-            arrival_lines.push(line);
-        }
         host.follow(entry).ok_or(Fault::new(14, line))?;
-    }
-    if let Some(index) = host.first_open() {
-        return Err(Fault::new(15, arrival_lines[index]));
     }
     let trace = write_trace(host.trace());
     let report = write_report(&host.report());
@@ -120,10 +113,6 @@ impl<'a> Host<'a> {
             of: of.collect(),
             log,
         }
-    }
-
-    fn first_open(&self) -> Option<usize> {
-        self.requests.iter().position(|request| !request.answered)
     }
 
     fn place(&self, rid: u64) -> Option<usize> {
@@ -217,6 +206,27 @@ mod tests {
             );
             let refused = result.verdict != 0;
             assert!(!refused || (result.trace.is_empty() && result.report.is_empty()));
+        }
+    }
+
+    /// What is written of both programs' requests, the first of which gets so many turns.
+    fn left_open(turns: usize) -> [String; 2] {
+        let turns = "turn=1\n".repeat(turns);
+        let schedule = format!("arrive=1,0,0,0\n{turns}arrive=2,1,0,0\n");
+        let result = record(worked::PROGRAMS.as_bytes(), schedule.as_bytes(), ROOM, ROOM);
+        assert_eq!((result.verdict, result.line), (0, 0));
+        [result.trace, result.report].map(|text| String::from_utf8(text).expect("digits"))
+    }
+
+    #[test]
+    fn open_requests_have_no_response_and_count_what_was_carried_out() {
+        let trace = "request=1,0,0,0\nrequest=2,1,0,0\n";
+        for (turns, report) in [
+            (0, "of=1,0,0\nof=2,1,0\n"),
+            (1, "of=1,0,1\nof=2,1,0\nlog=0,1,1,7,0,1\n"),
+            (2, "of=1,0,2\nof=2,1,0\nlog=0,1,1,7,0,1\nlog=1,1,2,6,0,0\n"),
+        ] {
+            assert_eq!(left_open(turns), [trace, report], "{turns} turns");
         }
     }
 

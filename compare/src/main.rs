@@ -151,6 +151,17 @@ struct Tally {
     orders: usize,
     no_orders: usize,
     given_up: usize,
+    open: Open,
+}
+
+/// Batches that come to row 7 and schedules that are followed, with open requests.
+#[derive(Default)]
+struct Open {
+    batches: usize,
+    accepted: usize,
+    /// Batches that the search of all orders did not give up.
+    searched: usize,
+    schedules: usize,
 }
 
 impl Tally {
@@ -158,12 +169,20 @@ impl Tally {
         let audited = checks::audit_of(&case.batch);
         self.verdicts[audited.verdict as usize] += 1;
         self.blocks += usize::from(audited.blocks > 0);
-        self.schedules[checks::record_of(case).verdict as usize] += 1;
-        match checks::search(&case.batch) {
+        let recorded = checks::record_of(case);
+        self.schedules[recorded.verdict as usize] += 1;
+        let found = checks::search(&case.batch);
+        match found {
             Some(Found::Order) => self.orders += 1,
             Some(Found::NoOrder) => self.no_orders += 1,
             Some(Found::GaveUp) => self.given_up += 1,
             None => {}
+        }
+        self.open.schedules += usize::from(checks::leaves_open(&recorded.trace));
+        if found.is_some() && checks::leaves_open(&case.batch.trace) {
+            self.open.batches += 1;
+            self.open.accepted += usize::from(audited.verdict == 0);
+            self.open.searched += usize::from(found != Some(Found::GaveUp));
         }
     }
 
@@ -177,6 +196,10 @@ impl Tally {
         println!(
             "search of all orders: {} with an order, {} with none, {} given up",
             self.orders, self.no_orders, self.given_up
+        );
+        println!(
+            "with open requests: {} batches, {} of them accepted, {} searched; {} schedules",
+            self.open.batches, self.open.accepted, self.open.searched, self.open.schedules
         );
     }
 }
@@ -241,5 +264,26 @@ fn tell(case: Case, check: Check, out: &Path) {
     println!("{}: {difference}", folder.display());
     if let Err(problem) = reduce::write(&reduced, &folder, &difference) {
         println!("{}: not written: {problem}", folder.display());
+    }
+}
+
+#[cfg(test)]
+mod tests {
+    use super::*;
+
+    #[test]
+    fn open_requests_are_in_a_tenth_of_the_random_cases() {
+        let mut tally = Tally::default();
+        let cases = 1_000;
+        cases::fixed(cases).for_each(|case| tally.count(&case));
+        let Tally { open, .. } = &tally;
+        for (share, of) in [
+            (open.batches, cases),
+            (open.accepted, tally.verdicts[0]),
+            (open.searched, tally.orders + tally.no_orders),
+            (open.schedules, cases),
+        ] {
+            assert!(10 * share >= of, "{share} of {of}");
+        }
     }
 }

@@ -106,7 +106,8 @@ impl<'a> PlainRun<'a> {
         })
     }
 
-    /// What demand 3 asks of the end of a run: counts, logs and one path for each group.
+    /// What demand 3 asks of the end of a run: counts, logs and one path for each group. A request that is
+    /// still open has come through its last operation and no further, and its path ends there.
     fn ends_as_reported(&self, batch: &Batch) -> bool {
         let counts_agree = batch
             .report

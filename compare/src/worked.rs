@@ -1,9 +1,10 @@
 //! The batches and schedules that the scope paper works out, an example of every row of its table, and the
-//! limits, each with the result that the paper gives; full hundreds of operations; orders to read and reads in
-//! the log, worked out by hand.
+//! limits, each with the result that the paper gives; full hundreds of operations; orders to read, reads in the
+//! log and open requests, worked out by hand.
 
 mod hundreds;
 mod limits;
+mod open;
 mod orders;
 mod reads;
 mod schedules;
@@ -14,6 +15,8 @@ use crate::texts::BatchTexts;
 pub const PROGRAMS: &str = "program=0\ndo=1,2,1,0\ndo=7,0,2,0\ndo=6,0,1,0\ndo=0,0,0,0\n\
                             program=1\ndo=1,2,1,0\ndo=7,1,2,0\ndo=6,0,0,0\ndo=0,0,0,0\n";
 pub const LOOP: &str = "program=0\ndo=1,2,1,0\ndo=5,2,0,0\ndo=0,0,0,0\n";
+/// One constant, then write and jump in turn up to the cut: write k is instruction 2k, write 128 the 256th.
+const WRITES: &str = "program=0\ndo=1,2,1,0\ndo=7,0,2,0\ndo=5,2,1,0\ndo=0,0,0,0\n";
 pub const SCHEDULE_OF_C: &[u8] =
     b"arrive=1,0,0,0\narrive=2,1,0,0\nturn=1\nturn=2\nturn=1\nturn=2\nturn=1\nturn=2\n";
 
@@ -63,6 +66,7 @@ pub fn batches() -> Vec<Case> {
     cases.extend(orders::orders());
     cases.extend(hundreds::hundreds());
     cases.extend(reads::reads());
+    cases.extend(open::open());
     cases
 }
 
@@ -212,16 +216,16 @@ fn readings() -> Vec<Case> {
             3,
         ),
         refused(
-            "a line fault goes before a request never answered",
+            "a response below open requests, of another rid",
             trace("request=1,0,0,0\nrequest=2,1,0,0\nresponse=3,0,0\n"),
             4,
             3,
         ),
         refused(
-            "the earliest request never answered",
+            "requests never answered are no fault of the trace",
             trace("request=3,0,0,0\nrequest=1,0,0,0\nresponse=3,0,0\nrequest=2,1,0,0\n"),
-            4,
-            2,
+            5,
+            1,
         ),
         refused("of lines exchanged", report("of=2,0,0\nof=1,1,0\n"), 6, 1),
         refused(

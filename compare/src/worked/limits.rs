@@ -1,6 +1,6 @@
 //! Batches on both sides of every limit.
 
-use super::{accepted, batch, refused, Case};
+use super::{accepted, batch, refused, Case, WRITES};
 use crate::texts::{BatchTexts, TEXT_LIMIT};
 
 const REPLIES: &str = "program=0\ndo=0,0,0,0\n";
@@ -251,7 +251,7 @@ fn writes(lines: usize) -> BatchTexts {
     let line = |num| format!("log=0,1,{num},7,0,1\n");
     let log: String = (1..=lines).map(line).collect();
     batch(
-        "program=0\ndo=1,2,1,0\ndo=7,0,2,0\ndo=5,2,1,0\ndo=0,0,0,0\n",
+        WRITES,
         "request=1,0,0,0\nresponse=1,1,0\n",
         &format!("of=1,0,{lines}\n{log}"),
     )

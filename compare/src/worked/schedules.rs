@@ -1,6 +1,6 @@
 //! Schedules for the host, each with the verdict and line that the paper gives.
 
-use super::{LOOP, PROGRAMS, SCHEDULE_OF_C};
+use super::{LOOP, PROGRAMS, SCHEDULE_OF_C, WRITES};
 use crate::texts::TEXT_LIMIT;
 
 pub struct Schedule {
@@ -33,6 +33,7 @@ pub fn schedules() -> Vec<Schedule> {
     let mut cases = rows();
     cases.extend(turns());
     cases.extend(limits());
+    cases.extend(open());
     cases
 }
 
@@ -44,7 +45,6 @@ fn schedule_of_c() -> String {
 }
 
 fn rows() -> Vec<Schedule> {
-    let both = format!("{ARRIVE}arrive=2,0,0,0\nturn=1\nturn=1\nturn=1\n");
     let short = Schedule {
         room_trace: 10,
         ..case("host row 16", PROGRAMS, schedule_of_c(), 16, 0)
@@ -79,23 +79,19 @@ fn rows() -> Vec<Schedule> {
             14,
             1,
         ),
-        case("host row 15", PROGRAMS, ARRIVE, 15, 1),
-        case("first open arrival", PROGRAMS, both, 15, 2),
         short,
     ]
 }
 
 fn turns() -> Vec<Schedule> {
     let more = schedule_of_c() + "turn=1\nturn=2\n";
-    // One constant, then write and jump in turn: write k is instruction 2k, write 128 the 256th.
-    let writes = "program=0\ndo=1,2,1,0\ndo=7,0,2,0\ndo=5,2,1,0\ndo=0,0,0,0\n";
     let turns = |count| format!("{ARRIVE}{}", "turn=1\n".repeat(count));
     vec![
         case("turns after the response", PROGRAMS, more, 0, 0),
         case("loop cut off", LOOP, turns(1), 0, 0),
-        case("256th instruction an operation", writes, turns(128), 15, 1),
-        case("cut by the next turn", writes, turns(129), 0, 0),
-        case("turn after the cut", writes, turns(130), 0, 0),
+        case("256th instruction an operation", WRITES, turns(128), 0, 0),
+        case("cut by the next turn", WRITES, turns(129), 0, 0),
+        case("turn after the cut", WRITES, turns(130), 0, 0),
     ]
 }
 
@@ -125,7 +121,7 @@ fn limits() -> Vec<Schedule> {
     let wide = "arrive=65535,0,18446744073709551615,0\nturn=65535\n";
     vec![
         case("1,008 operations", &loops, full.clone(), 0, 0),
-        case("1,024th operation", &loops, last(16), 15, 4 * 254 + 1),
+        case("1,024th operation", &loops, last(16), 0, 0),
         case("1,025th operation", &loops, last(17), 14, 4 * 254 + 18),
         case("64 arrivals", REPLIES, arrivals(64), 0, 0),
         case("65 arrivals", REPLIES, arrivals(65), 13, 129),
@@ -186,6 +182,30 @@ fn limits() -> Vec<Schedule> {
             format!("{ARRIVE}turn=1"),
             13,
             2,
+        ),
+    ]
+}
+
+/// Requests that get too few turns for an answer, or none.
+fn open() -> Vec<Schedule> {
+    let arrivals = format!("{ARRIVE}arrive=2,1,0,0\n");
+    let turns = |order: &str| {
+        let turns = order.chars().map(|rid| format!("turn={rid}\n"));
+        format!("{arrivals}{}", turns.collect::<String>())
+    };
+    vec![
+        case("an arrival alone", PROGRAMS, ARRIVE, 0, 0),
+        case("arrivals alone", PROGRAMS, arrivals.clone(), 0, 0),
+        case("the first left open", PROGRAMS, turns("222"), 0, 0),
+        case("the second left open", PROGRAMS, turns("111"), 0, 0),
+        case("open after one operation", PROGRAMS, turns("1222"), 0, 0),
+        case("open after all operations", PROGRAMS, turns("12122"), 0, 0),
+        case(
+            "a fault below an open request",
+            PROGRAMS,
+            format!("{ARRIVE}turn=1\n{ARRIVE}"),
+            14,
+            3,
         ),
     ]
 }
