@@ -31,20 +31,11 @@ fn trace_cause(line: u64, texts: &Texts) -> Option<String> {
         ("request", &[rid, prog, ..]) => {
             let first = first_of(&trace, "request", rid).filter(|first| *first < line);
             let twice = first.map(|first| format!("rid {rid} used twice, first on line {first}"));
-            twice
-                .or_else(|| unknown_program(prog, texts))
-                .or_else(|| never_answered(&trace, rid))
+            twice.or_else(|| unknown_program(prog, texts))
         }
         ("response", &[rid, ..]) => not_open(&trace, rid, line),
         _ => None,
     }
-}
-
-fn never_answered(trace: &[Record], rid: u64) -> Option<String> {
-    let answer = first_of(trace, "response", rid);
-    answer
-        .is_none()
-        .then(|| format!("request never answered: no response has rid {rid}"))
 }
 
 /// Why there is no open request with this rid at a line of the trace.
@@ -201,12 +192,8 @@ mod tests {
             in_trace(1, unknown),
             "unknown program 2: there are programs 0 to 1"
         );
-        let open = "request=3,0,0,0\nrequest=1,0,0,0\nresponse=3,0,0\nrequest=2,1,0,0\n";
-        assert_eq!(
-            in_trace(2, open),
-            "request never answered: no response has rid 1"
-        );
-        assert_eq!(in_trace(1, open), "");
+        // A request that is never answered is no fault.
+        assert_eq!(in_trace(1, "request=1,0,0,0\n"), "");
     }
 
     #[test]

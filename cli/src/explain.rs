@@ -17,25 +17,23 @@ pub fn run(words: impl Iterator<Item = OsString>) -> Result<Status, NotRun> {
         return help::print(help::EXPLAIN);
     }
     let [word] = given.exactly("one verdict is")?;
-    let number = verdicts::number(word.as_bytes());
-    let found = number.and_then(|number| Some((number, verdicts::verdict(number)?)));
-    let Some((number, verdict)) = found else {
+    let found = verdicts::number(word.as_bytes()).and_then(verdicts::verdict);
+    let verdict = found.ok_or_else(|| {
         let word = shown::name(word);
-        return Err(NotRun(format!(
-            "there is no verdict '{word}': they are 0 to {}",
-            verdicts::LAST
-        )));
-    };
-    help::print(&explained(number, verdict))
+        NotRun(format!(
+            "there is no verdict '{word}' ('--help' says which there are)"
+        ))
+    })?;
+    help::print(&explained(verdict))
 }
 
-fn explained(number: u64, verdict: &Verdict) -> String {
+fn explained(verdict: &Verdict) -> String {
     let line = match verdict.text {
         Some(text) => format!("Its line is one of {}.", text.file()),
         None => "It names no line.".to_owned(),
     };
     let parts = [
-        format!("Verdict {number}: {}.", verdict.rule),
+        format!("Verdict {}: {}.", verdict.number, verdict.rule),
         line,
         format!("Example: {}.", verdict.example),
         format!("What to do: {}", verdict.next),

@@ -6,7 +6,7 @@ use crate::json::{self, Object, Value};
 use crate::outcome::{count, NotRun, Status};
 use crate::proved::{self, Proved};
 use crate::shown;
-use crate::texts::{Text, Texts};
+use crate::texts::{lines_of, Text, Texts};
 use crate::verdicts::{self, Audited, Bill};
 use std::ffi::OsString;
 
@@ -78,6 +78,8 @@ pub struct Finding {
     pub batch: OsString,
     pub state: State,
     pub audited: Option<Audited>,
+    /// How many requests of an accepted batch never got a response; 0 of a refused one, of which nothing is counted.
+    pub open: Option<u64>,
     /// The text that a refusal is about, and the line that it names, where there is such a line.
     pub text: Option<Text>,
     pub bytes: Option<Vec<u8>>,
@@ -109,12 +111,17 @@ impl Finding {
     /// A verdict that was found of these texts, without its sentence.
     pub fn read(batch: OsString, answer: Answer, texts: &Texts) -> Finding {
         let Answer { audited, order } = answer;
+        let open = match audited.verdict {
+            0 => open(texts.bytes(Text::Trace)),
+            _ => 0,
+        };
         let text = verdicts::text(audited.verdict);
         let bytes = text.and_then(|text| line_of(texts.bytes(text), audited.line));
         Finding {
             batch,
             state: State::of(&audited),
             audited: Some(audited),
+            open: Some(open),
             text,
             bytes: bytes.map(<[u8]>::to_vec),
             order,
@@ -130,6 +137,7 @@ impl Finding {
             batch,
             state,
             audited: None,
+            open: None,
             text: None,
             bytes: None,
             order: None,
@@ -166,6 +174,7 @@ impl Finding {
         object.add("operations", json::number(audited.map(|a| a.operations)));
         object.add("blocks", json::number(bill.map(|bill| bill.blocks)));
         object.add("rest", json::number(bill.map(|bill| bill.rest)));
+        object.add("open", json::number(self.open));
         object.add("order", json::optional(self.order.as_deref().map(listed)));
         object.add("sentence", json::string(&self.sentence));
         object.add("version", json::string(&self.program.version));
@@ -191,7 +200,22 @@ fn sentence(audited: &Audited, texts: &Texts) -> String {
     let bill = audited.bill.map_or(String::new(), |Bill { blocks, rest }| {
         format!(" ({}, rest {rest})", count(blocks, "block"))
     });
-    format!("accepted: {requests}, {operations}{bill}{}", missing(texts))
+    let (open, missing) = (left_open(texts.bytes(Text::Trace)), missing(texts));
+    format!("accepted: {requests}, {operations}{bill}{open}{missing}")
+}
+
+/// How many requests of an accepted batch never got a response: each response of its trace answers another request.
+fn open(trace: &[u8]) -> u64 {
+    let [requests, responses] = [&b"request="[..], b"response="].map(|word| lines_of(trace, word));
+    requests.saturating_sub(responses)
+}
+
+/// These behind the counts of a sentence, which has nothing there where no request was left open.
+pub fn left_open(trace: &[u8]) -> String {
+    match open(trace) {
+        0 => String::new(),
+        number => format!(", {} left open", count(number, "request")),
+    }
 }
 
 /// A refusal in one sentence: the verdict, its cause or else its rule, and the line that it names.
@@ -230,4 +254,58 @@ pub fn missing(texts: &Texts) -> String {
 fn line_of(text: &[u8], line: u64) -> Option<&[u8]> {
     let before = usize::try_from(line).ok()?.checked_sub(1)?;
     text.split_inclusive(|byte| *byte == b'\n').nth(before)
+}
+
+#[cfg(test)]
+mod tests {
+    use super::*;
+
+    const ALL_ANSWERED: &str = "request=1,0,0,0\nrequest=2,0,0,0\nresponse=2,0,0\nresponse=1,0,0\n";
+    const ONE_OPEN: &str = "request=1,0,0,0\nrequest=2,0,0,0\nresponse=2,0,0\n";
+    const TWO_OPEN: &str = "request=1,0,0,0\nrequest=2,0,0,0\n";
+
+    /// What is found of a batch with this verdict and trace, with its sentence.
+    fn found(verdict: u64, trace: &str) -> (Option<u64>, String) {
+        let counted = match verdict {
+            0 => 2,
+            _ => 0,
+        };
+        let audited = Audited {
+            verdict,
+            line: 0,
+            requests: counted,
+            operations: counted,
+            bill: None,
+        };
+        let order = None;
+        let texts = Texts::of(vec![(Text::Trace, trace.into())]);
+        let finding = Finding::read(OsString::new(), Answer { audited, order }, &texts);
+        (finding.open, sentence(&audited, &texts))
+    }
+
+    #[test]
+    fn requests_left_open_are_counted_and_said() {
+        let counts = "accepted: 2 requests, 2 operations";
+        assert_eq!(found(0, ALL_ANSWERED), (Some(0), counts.to_owned()));
+        let one = format!("{counts}, 1 request left open");
+        assert_eq!(found(0, ONE_OPEN), (Some(1), one));
+        let two = format!("{counts}, 2 requests left open");
+        assert_eq!(found(0, TWO_OPEN), (Some(2), two));
+    }
+
+    #[test]
+    fn of_a_refused_batch_none_is_counted() {
+        let refused = "refused, verdict 9 (the order returns to itself)";
+        for trace in [ALL_ANSWERED, ONE_OPEN, TWO_OPEN] {
+            assert_eq!(found(9, trace), (Some(0), refused.to_owned()));
+        }
+    }
+
+    /// A kept trace may be anything.
+    #[test]
+    fn no_trace_makes_it_panic() {
+        for trace in ["", "\n", "request", "response=1,0,0\n", "x\nresponse="] {
+            assert_eq!(found(0, trace).0, Some(0), "{trace:?}");
+        }
+    }
 }

@@ -41,13 +41,15 @@ and each operation ('teaselshears order DIR' tells it in words):
   op=RID,NUM     operation NUM of request RID
 Of what may come next operations go before lines of the trace, and of several operations the one whose log line stands
 first in the report.
-Standard error: one sentence: accepted with these counts, or the verdict with its cause, the text and the line with its
-bytes (what is not printable as \\ and three octal digits).
+Standard error: one sentence: accepted with these counts and, where some were, how many requests were left open (never
+got a response), or the verdict with its cause, the text and the line with its bytes (what is not printable as \\ and
+three octal digits).
 
       --json              one JSON object in place of both: batch, state, verdict, line, text, bytes, requests,
-                          operations, blocks, rest, order, sentence, version, library, kit; null where there is none.
-                          A byte of 'bytes' is the character of its number; 'order' is a list of the order's lines; a
-                          name that is not UTF-8 is a list of its bytes
+                          operations, blocks, rest, open, order, sentence, version, library, kit; null where there is
+                          none. A byte of 'bytes' is the character of its number; 'open' is how many requests were left
+                          open, 0 where it is refused; 'order' is a list of the order's lines; a name that is not UTF-8
+                          is a list of its bytes
       --missing-as-empty  a missing file is an empty text; without it such a batch is not run. A folder with none
                           of the three files is never run
   -                       in place of DIR: takes folder names from standard input, one a line, and prints an object
@@ -74,7 +76,8 @@ refused:
                    reads register O and gets V
                    puts V at key K of store O
                    reads key K of store O and gets V
-Standard error: one sentence, that of 'teaselshears audit'.
+Standard error: one sentence, that of 'teaselshears audit', and behind it which requests were left open, each with how
+many operations it had carried out.
 
 The order is proved: the first word of each line. The words behind it and the line numbers are not: this program looks
 for the line of each item. Of an accepted batch, what a log line says was written or read is proved to be so.
@@ -95,9 +98,10 @@ one rename, or not at all; a run that is killed may leave a folder beside it who
 An OUT that is there is left alone, with status 2, unless it holds just these three texts already.
 
 Standard output: the lines that the proved program 'record' prints before the trace:
-  verdict=N      0 recorded; 1, 2, 13 to 15 refused ('teaselshears explain N' says more)
+  verdict=N      0 recorded; 1, 2, 13, 14 refused ('teaselshears explain N' says more)
   line=N         the line that the verdict names, 0 where it names none
-Standard error: one sentence: recorded, or the verdict with its cause, the text and the line with its bytes.
+Standard error: one sentence: recorded, with the counts and, where some were, how many requests were left open, or the
+verdict with its cause, the text and the line with its bytes.
 
       --missing-as-empty  a missing file is an empty text; without it nothing is run. A folder with neither file is
                           never run
@@ -123,7 +127,8 @@ RESULTS: new, empty, or made by this command; not in SPOOL, nor SPOOL in it.
   batches/NAME/about                                 time (UTC), version, library, kit and sentence
   table.csv                                          a heading, and a row for each batch of the spool and each kept
                                                      result: batch, state, verdict, line, requests, operations,
-                                                     blocks, rest, time, sentence. CSV as RFC 4180 has it, in UTF-8
+                                                     blocks, rest, time, sentence, open. CSV as RFC 4180 has it, in
+                                                     UTF-8
 A result appears whole, by one rename. One run at a time works on a RESULTS; another waits three seconds and gives up.
 
 A state is accepted or refused; changed, where the texts in the spool are not those that were audited; failed, where
@@ -133,7 +138,8 @@ again, remove batches/NAME.
 
 What an earlier version kept stays as it was. It has no blocks and rest where that version printed none: they are empty
 in the table and null in JSON; and no order where that version had none either. To have them, remove batches/NAME and
-run again. A batch from before values read were shown in the log, with 0 in their place, is then refused as 10.
+run again. A batch from before values read were shown in the log, with 0 in their place, is then refused as 10; one that
+was refused as 4 for a request never answered may then be accepted, with that request left open.
 
 Standard error: on a terminal a line of progress, otherwise a line for each batch that is audited; a line for each
 that is refused, changed or failed, in a later run too; and the counts.
@@ -154,7 +160,7 @@ are changed or failed; or the run was stopped, there is no batch, or RESULTS or 
 pub const EXPLAIN: &str = "\
 usage: teaselshears explain N
 
-Says what verdict N (0 to 16) means: its rule, a small example, and what to do next.
+Says what verdict N (0 to 14, 16) means: its rule, a small example, and what to do next.
 
   -h, --help       this text
 ";

@@ -7,7 +7,7 @@ use crate::audit::missing;
 use crate::findings::Finding;
 use crate::formats;
 use crate::help;
-use crate::outcome::{print, say, NotRun, Status};
+use crate::outcome::{count, print, say, NotRun, Status};
 use crate::proved::Proved;
 use crate::shown;
 use crate::texts::{Text, Texts, BATCH};
@@ -23,13 +23,15 @@ pub fn run(words: impl Iterator<Item = OsString>) -> Result<Status, NotRun> {
     let [folder] = given.exactly("one folder is")?;
     let texts = Texts::read(Path::new(folder), &BATCH, missing(&given))?;
     let (finding, _) = Finding::audit(folder.to_owned(), &texts, &mut Proved::new())?;
+    let mut sentence = finding.sentence;
     if let Some(order) = &finding.order {
         let told = told(order, &texts).ok_or_else(|| {
             NotRun::new("the library's order names an operation that has no log line")
         })?;
         print(told.as_bytes())?;
+        sentence.push_str(&left_open(&texts));
     }
-    say(&finding.sentence);
+    say(&sentence);
     Ok(finding.state.status())
 }
 
@@ -51,6 +53,29 @@ fn told(order: &[Item], texts: &Texts) -> Option<String> {
         told.push_str(&format!("{:<12}  {words}\n", item.to_string()));
     }
     Some(told)
+}
+
+/// Which requests were left open, and after how many operations, behind a sentence that ends in their number: where there is a
+/// request, no text was missing.
+fn left_open(texts: &Texts) -> String {
+    let [trace, report] =
+        [Text::Trace, Text::Report].map(|text| formats::records(text, texts.bytes(text)));
+    let is_answered = |rid| {
+        let mut responses = trace.iter().filter(|record| record.word == "response");
+        responses.any(|response| response.numbers.first() == Some(&rid))
+    };
+    let open = report.iter().filter_map(|record| match record.numbers[..] {
+        [rid, _, operations] if !is_answered(rid) => Some(format!(
+            "request {rid} after {}",
+            count(operations, "operation")
+        )),
+        _ => None,
+    });
+    let open: Vec<String> = open.collect();
+    match open.is_empty() {
+        true => String::new(),
+        false => format!(": {}", open.join(", ")),
+    }
 }
 
 /// The lines of a text.
@@ -189,6 +214,19 @@ event=4       trace.txt, line 4: \"response=2,0,1\"
             "reads key 3 of store 9 and gets 0",
         ];
         assert_eq!(words(&log), wanted);
+    }
+
+    #[test]
+    fn requests_left_open_are_named() {
+        let report = "of=1,0,2\nof=2,1,1\nof=3,2,0\nlog=0,2,1,7,0,1\n";
+        let requests = "request=1,0,0,0\nrequest=2,1,0,0\nrequest=3,1,0,0\n";
+        let open = |responses: &str| left_open(&texts(&format!("{requests}{responses}"), report));
+        let first = "request 1 after 2 operations";
+        let others = "request 2 after 1 operation, request 3 after 0 operations";
+        assert_eq!(open(""), format!(": {first}, {others}"));
+        assert_eq!(open("response=1,0,2\n"), format!(": {others}"));
+        let all = "response=3,0,2\nresponse=1,0,2\nresponse=2,0,3\n";
+        assert_eq!(open(all), "");
     }
 
     #[test]

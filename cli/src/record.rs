@@ -8,7 +8,7 @@ use crate::outcome::{count, print, say, NotRun, Status};
 use crate::proved::Proved;
 use crate::shown;
 use crate::system;
-use crate::texts::{Missing, Text, Texts, BATCH, RUN};
+use crate::texts::{lines_of, Missing, Text, Texts, BATCH, RUN};
 use crate::verdicts;
 use std::ffi::OsString;
 use std::fs::{self, File};
@@ -42,9 +42,10 @@ pub fn run(words: impl Iterator<Item = OsString>) -> Result<Status, NotRun> {
     print(recorded.front)?;
     let requests = count(lines_of(recorded.report, b"of="), "request");
     let operations = count(lines_of(recorded.report, b"log="), "operation");
+    let open = findings::left_open(recorded.trace);
     let (name, missing) = (shown::name(out), findings::missing(&texts));
     say(&format!(
-        "recorded to {name}: {requests}, {operations}{missing}"
+        "recorded to {name}: {requests}, {operations}{open}{missing}"
     ));
     Ok(Status::Success)
 }
@@ -82,11 +83,6 @@ fn lines_with<'a>(text: &'a [u8], words: &[&[u8]]) -> &'a [u8] {
     let lines = text.split_inclusive(|byte| *byte == b'\n');
     let front = lines.take_while(|line| words.iter().any(|word| line.starts_with(word)));
     &text[..front.map(<[u8]>::len).sum()]
-}
-
-fn lines_of(text: &[u8], word: &[u8]) -> u64 {
-    let lines = text.split(|byte| *byte == b'\n');
-    lines.filter(|line| line.starts_with(word)).count() as u64
 }
 
 /// Writes a batch to a new folder beside OUT, and renames it to OUT. What is there already is left alone; it is well if it is

@@ -94,6 +94,12 @@ impl Texts {
     }
 }
 
+/// How many lines of a text begin with this word.
+pub fn lines_of(text: &[u8], word: &[u8]) -> u64 {
+    let lines = text.split(|byte| *byte == b'\n');
+    lines.filter(|line| line.starts_with(word)).count() as u64
+}
+
 pub fn open_folder(path: &Path) -> Result<File, NotRun> {
     if path.as_os_str().is_empty() {
         return Err(NotRun::new("the name of the folder is empty"));

@@ -4,6 +4,7 @@ use crate::texts::Text;
 
 /// A verdict's row in the scope's table, and what staff do about it.
 pub struct Verdict {
+    pub number: u64,
     pub rule: &'static str,
     /// The text that its line belongs to.
     pub text: Option<Text>,
@@ -13,7 +14,7 @@ pub struct Verdict {
 
 /// The verdict of a number.
 pub fn verdict(number: u64) -> Option<&'static Verdict> {
-    VERDICTS.get(usize::try_from(number).ok()?)
+    VERDICTS.iter().find(|verdict| verdict.number == number)
 }
 
 pub fn rule(number: u64) -> &'static str {
@@ -25,9 +26,6 @@ pub fn rule(number: u64) -> &'static str {
 pub fn text(number: u64) -> Option<Text> {
     verdict(number).and_then(|verdict| verdict.text)
 }
-
-/// The largest number.
-pub const LAST: usize = VERDICTS.len() - 1;
 
 /// What an audit found, as its verdict lines say it.
 #[derive(Clone, Copy, Debug, PartialEq, Eq)]
@@ -118,106 +116,118 @@ programs change line ends.";
 const HOST_AT_FAULT: &str = "Keep the lane and the three files. The report does not fit what the recorder saw: ask the hosting \
 firm for its log of this batch, and audit what it sends as a new batch.";
 
-const VERDICTS: [Verdict; 17] = [
+const VERDICTS: [Verdict; 16] = [
     Verdict {
+        number: 0,
         rule: "accepted",
         text: None,
         example: "three empty texts",
-        next: "Look at the counts: they are those of the batch you meant. Then the lane may be wiped.",
+        next: "Look at the counts: they are those of the batch you meant. A request left open never got its response: see that \
+the trace goes on to the end of the batch, and see to the instrument that lost power. Then the lane may be wiped.",
     },
     Verdict {
+        number: 1,
         rule: "programs unreadable",
         text: Some(Text::Programs),
         example: "programs `do=1,2`: line 1",
         next: UNREADABLE,
     },
     Verdict {
+        number: 2,
         rule: "a program rule broken",
         text: Some(Text::Programs),
         example: "programs `program=0`, `do=0,8,0,0`: line 2, since there is no local 8",
         next: "Hold the line against the table of codes in FORMATS.md, and give the programs that the host really ran.",
     },
     Verdict {
+        number: 3,
         rule: "trace unreadable",
         text: Some(Text::Trace),
         example: "trace `request=01,0,0,0`: line 1",
         next: UNREADABLE,
     },
     Verdict {
-        rule: "rid used twice, unknown program, response with no open request, request never answered",
+        number: 4,
+        rule: "rid used twice, unknown program, response with no open request",
         text: Some(Text::Trace),
         example: "trace `response=1,0,0`: line 1",
         next: "Keep the lane. The recorder's trace does not hold together: see that it is the whole trace of one batch, begun \
-before its first request and ended after its last response.",
+before its first request.",
     },
     Verdict {
+        number: 5,
         rule: "report unreadable",
         text: Some(Text::Report),
         example: "report `of=1,0`: line 1",
         next: UNREADABLE,
     },
     Verdict {
+        number: 6,
         rule: "`of` lines are not one per request in arrival order",
         text: Some(Text::Report),
         example: "request 1 in the trace, and an empty report: line 1, the one after the last `of`",
         next: HOST_AT_FAULT,
     },
     Verdict {
+        number: 7,
         rule: "log line's rid unknown, num 0 or above count, or claimed before",
         text: Some(Text::Report),
         example: "report `of=1,0,0`, `log=0,1,1,7,0,1`: line 2, since request 1 has no operation",
         next: HOST_AT_FAULT,
     },
     Verdict {
+        number: 8,
         rule: "an operation within the count has no log line",
         text: Some(Text::Report),
         example: "report `of=1,0,1` alone: line 1",
         next: HOST_AT_FAULT,
     },
     Verdict {
+        number: 9,
         rule: "the order returns to itself",
         text: None,
         example: "case B (examples/case-b): each request writes, then reads, and by the logs each read before the other wrote",
         next: HOST_AT_FAULT,
     },
     Verdict {
+        number: 10,
         rule: "operation or count differs",
         text: Some(Text::Report),
         example: "case C with 2 as the first log value: line 1, the `of` line of the request that differs; a log line that does \
-not show the value read (examples/refused-10-read-not-shown) is a 10 too",
+not show the value read (examples/refused-10-read-not-shown) is a 10 too, and so is an open request whose program has fewer \
+operations than its `of` counts (examples/refused-10-open-request)",
         next: HOST_AT_FAULT,
     },
     Verdict {
+        number: 11,
         rule: "status or value differs",
         text: Some(Text::Report),
         example: "case C with `response=2,0,5`: line 2, the `of` line of request 2",
         next: HOST_AT_FAULT,
     },
     Verdict {
+        number: 12,
         rule: "path differs in a group",
         text: Some(Text::Report),
         example: "case C with `of=2,0,2`: line 2, since request 2 did not go the way of request 1",
         next: HOST_AT_FAULT,
     },
     Verdict {
+        number: 13,
         rule: "schedule unreadable",
         text: Some(Text::Schedule),
         example: "schedule `turn=1,`: line 1",
         next: UNREADABLE,
     },
     Verdict {
+        number: 14,
         rule: "rid arrives twice, unknown program, turn of a rid not arrived, a 1,025th operation",
         text: Some(Text::Schedule),
         example: "schedule `turn=1`: line 1",
         next: "Mend the schedule at the line that is named.",
     },
     Verdict {
-        rule: "a request left open",
-        text: Some(Text::Schedule),
-        example: "schedule `arrive=1,0,0,0`: line 1",
-        next: "Give the request turns until it is answered: one for each operation, and one for its reply.",
-    },
-    Verdict {
+        number: 16,
         rule: "a lent buffer is too short for its text",
         text: None,
         example: "case C's schedule with 10 bytes for the trace (from C or Rust; this program's buffers are never too short)",
@@ -344,12 +354,22 @@ mod tests {
     }
 
     #[test]
+    fn a_verdict_is_found_by_its_number() {
+        let numbers: Vec<u64> = (0..=20).filter(|n| verdict(*n).is_some()).collect();
+        let wanted: Vec<u64> = (0..=14).chain([16]).collect();
+        assert_eq!(numbers, wanted);
+        assert_eq!(rule(15), "a verdict that this program does not know");
+        assert_eq!(rule(16), "a lent buffer is too short for its text");
+    }
+
+    #[test]
     fn the_rules_are_those_of_the_document() {
         let path = concat!(env!("CARGO_MANIFEST_DIR"), "/../docs/FORMATS.md");
         let document = std::fs::read_to_string(path).unwrap();
-        for (number, verdict) in VERDICTS.iter().enumerate() {
-            let row = format!("\n| {number} | {}", verdict.rule);
+        for Verdict { number, rule, .. } in &VERDICTS {
+            let row = format!("\n| {number} | {rule}");
             assert!(document.contains(&row), "{number}");
         }
+        assert!(!document.contains("\n| 15 |"), "there is none");
     }
 }

@@ -19,13 +19,13 @@
 extern "C" {
 #endif
 
-/* The verdicts. docs/FORMATS.md has them with their rules and examples. */
+/* The verdicts. docs/FORMATS.md has them with their rules and examples. There is no 15. */
 enum teaselshears_verdict {
     TEASELSHEARS_ACCEPTED = 0,             /* of the host: recorded */
     TEASELSHEARS_PROGRAMS_UNREADABLE = 1,
     TEASELSHEARS_RULE_BROKEN = 2,
     TEASELSHEARS_TRACE_UNREADABLE = 3,
-    TEASELSHEARS_TRACE_FAULT = 4,          /* rid used twice, unknown program, response with no open request, never answered */
+    TEASELSHEARS_TRACE_FAULT = 4,          /* rid used twice, unknown program, response with no open request */
     TEASELSHEARS_REPORT_UNREADABLE = 5,
     TEASELSHEARS_OF_LINES = 6,             /* not one per request in arrival order */
     TEASELSHEARS_LOG_LINE = 7,             /* rid unknown, num 0 or above count, or claimed before */
@@ -36,7 +36,6 @@ enum teaselshears_verdict {
     TEASELSHEARS_PATH_DIFFERS = 12,
     TEASELSHEARS_SCHEDULE_UNREADABLE = 13,
     TEASELSHEARS_SCHEDULE_FAULT = 14,      /* rid arrives twice, unknown program, turn of a rid not arrived, 1,025th operation */
-    TEASELSHEARS_REQUEST_OPEN = 15,
     TEASELSHEARS_BUFFER_SHORT = 16
 };
 
@@ -53,7 +52,8 @@ enum { TEASELSHEARS_AUDIT_NUMBERS = 6, TEASELSHEARS_ORDER_NUMBERS = 7 };
    returned; with out_length below 6 nothing is written, and 0 is returned. So out[0] means nothing unless 6 was returned: an
    out that was cleared to 0 and is too short looks accepted to whoever does not look at the result. Blocks are the whole
    hundreds of operations, by which they are charged, and rest is what is left over, 0 to 99: 100 * out[4] + out[5] is
-   out[3]. All four counts are 0 on a refusal.
+   out[3]. All four counts are 0 on a refusal. How many requests of an accepted batch were left open, and never got a response, is
+   not among the numbers: it is its `request` lines less its `response` lines.
 
    Before there were blocks and rest, four numbers were written and 4 was returned. A caller that was compiled for four gets 0
    for an out of four, and 6 for a longer one: neither is the 4 that it has to look for. */

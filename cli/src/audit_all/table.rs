@@ -6,7 +6,8 @@ use crate::findings::{Finding, State};
 use crate::outcome::NotRun;
 use crate::shown;
 
-const HEADING: [&str; 10] = [
+/// New columns stand at the end, so that whoever reads by places finds the others where they were.
+const HEADING: [&str; 11] = [
     "batch",
     "state",
     "verdict",
@@ -17,6 +18,7 @@ const HEADING: [&str; 10] = [
     "rest",
     "time",
     "sentence",
+    "open",
 ];
 
 /// The batches of the spool as they were found, and the kept results of those that are no longer in it.
@@ -53,6 +55,7 @@ fn row_of(finding: &Finding) -> String {
         number(bill.map(|bill| bill.rest)),
         finding.time.clone(),
         finding.sentence.clone(),
+        number(finding.open),
     ])
 }
 

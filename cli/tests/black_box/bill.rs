@@ -66,8 +66,9 @@ fn bills_around_the_hundreds(room: &Room) -> Done {
         assert_eq!(lines.join("\n"), wanted);
         assert!(ended.sentence().ends_with(&format!(", {words}")), "{ended}");
         let ended = program("audit").arg("--json").arg(&batch).end();
-        let keys =
-            format!(r#","operations":{operations},"blocks":{blocks},"rest":{rest},"order":["#);
+        let keys = format!(
+            r#","operations":{operations},"blocks":{blocks},"rest":{rest},"open":0,"order":["#
+        );
         assert!(ended.is(0).text().contains(&keys), "{keys}; {ended}");
     }
     Ok(())
@@ -145,14 +146,14 @@ and no order where that version had none either. To have them, remove";
             "blocks=N the whole hundreds of operations, by which they are charged",
         ),
         (&audit, "rest=N the operations left over, 0 to 99"),
-        (&audit, "requests, operations, blocks, rest, order"),
+        (&audit, "requests, operations, blocks, rest, open, order"),
         (&all, "requests, operations, blocks, rest, time"),
         (&all, earlier),
         (
             &manual,
             "the whole hundreds of operations, by which they are charged",
         ),
-        (&manual, "requests, operations, blocks, rest, order"),
+        (&manual, "requests, operations, blocks, rest, open, order"),
         (&manual, "requests, operations, blocks, rest, time"),
         (&manual, earlier),
     ] {

@@ -3,8 +3,8 @@
 use crate::harness::{tests, Done, Skipped};
 use crate::json::{only_object, text, Object, Value};
 use crate::room::{
-    audited_examples, check_recorded, example, examples, expected, expected_order, names_in, read,
-    Room,
+    audited_examples, check_recorded, example, examples, expected, expected_order, left_open,
+    names_in, read, Room,
 };
 use crate::run::{audit, program, proved_program, record, Run};
 use std::collections::BTreeSet;
@@ -26,8 +26,8 @@ tests![
     causes_of_verdict_14_differ,
 ];
 
-/// The place that the sentence of a refused example ends in.
-const PLACES: [(&str, &str); 14] = [
+/// The place that the sentence of a refused example ends in; the first that its name begins with.
+const PLACES: [(&str, &str); 15] = [
     ("refused-01", r#"programs.txt, line 1: "do=1,2""#),
     ("refused-02", r#"programs.txt, line 2: "do=0,8,0,0""#),
     ("refused-03", r#"trace.txt, line 1: "request=01,0,0,0""#),
@@ -36,12 +36,13 @@ const PLACES: [(&str, &str); 14] = [
     ("refused-06", "report.txt, line 1, which is behind its end"),
     ("refused-07", r#"report.txt, line 2: "log=0,1,1,7,0,1""#),
     ("refused-08", r#"report.txt, line 1: "of=1,0,1""#),
+    ("refused-10-open", r#"report.txt, line 1: "of=1,0,1""#),
     ("refused-10", r#"report.txt, line 1: "of=1,0,2""#),
     ("refused-11", r#"report.txt, line 2: "of=2,1,2""#),
+    ("refused-12-open", r#"report.txt, line 2: "of=2,0,0""#),
     ("refused-12", r#"report.txt, line 2: "of=2,0,2""#),
     ("refused-13", r#"schedule.txt, line 1: "turn=1,""#),
     ("refused-14", r#"schedule.txt, line 1: "turn=1""#),
-    ("refused-15", r#"schedule.txt, line 1: "arrive=1,0,0,0""#),
 ];
 
 /// The number behind a word of what an example must print.
@@ -72,6 +73,15 @@ fn bill(name: &str) -> String {
     format!("{}, rest {rest}", count(name, "blocks"))
 }
 
+/// What stands behind the counts where an accepted example has requests without a response.
+fn open(name: &str) -> String {
+    match left_open(&example(name)) {
+        0 => String::new(),
+        1 => ", 1 request left open".to_string(),
+        many => format!(", {many} requests left open"),
+    }
+}
+
 #[track_caller]
 fn check_refusal(name: &str, sentence: &str) {
     let verdict = number(&expected(name), "verdict").unwrap();
@@ -99,7 +109,8 @@ fn audit_of_every_example(_: &Room) -> Done {
         let ended = audit(example(&name));
         ended.printed(expected(&name));
         if number(&expected(&name), "verdict") == Some(0) {
-            let said = format!("accepted: {} ({})", counts(&name), bill(&name));
+            let (counts, bill, open) = (counts(&name), bill(&name), open(&name));
+            let said = format!("accepted: {counts} ({bill}){open}");
             assert_eq!(ended.is(0).sentence(), said);
         } else {
             check_refusal(&name, &ended.is(1).sentence());
@@ -168,10 +179,11 @@ fn audit_in_json_of_every_example(_: &Room) -> Done {
             let number = number(&expected(&name), key).unwrap();
             assert_eq!(object[key], Value::Number(number), "{key} of {name}");
         }
-        let order = match state {
-            "accepted" => Value::Lines(expected_order(&name)),
-            _ => Value::Null,
+        let (open, order) = match state {
+            "accepted" => (left_open(&folder), Value::Lines(expected_order(&name))),
+            _ => (0, Value::Null),
         };
+        assert_eq!(object["open"], Value::Number(open as u64), "{name}");
         assert_eq!(object["order"], order, "{name}");
         check_place(&name, &object);
     }
@@ -206,7 +218,8 @@ fn record_of_every_schedule(room: &Room) -> Done {
             assert!(!out.exists(), "{name} writes nothing");
             continue;
         }
-        let said = format!("recorded to {}: {}", out.display(), counts(&name));
+        let (counts, open) = (counts(&name), open(&name));
+        let said = format!("recorded to {}: {counts}{open}", out.display());
         assert_eq!(ended.is(0).printed("verdict=0\nline=0\n").sentence(), said);
         check_recorded(&name, &out);
         audit(&out).is(0).printed(expected(&name));
@@ -235,7 +248,7 @@ fn record_of_programs_that_are_refused(room: &Room) -> Done {
 fn an_example_of_every_verdict(_: &Room) -> Done {
     let verdict = |name: &String| number(&expected(name), "verdict").unwrap();
     let verdicts: BTreeSet<u64> = examples().iter().map(verdict).collect();
-    assert!(verdicts.into_iter().eq(0..=15));
+    assert!(verdicts.into_iter().eq(0..=14));
     Ok(())
 }
 
@@ -305,7 +318,6 @@ fn causes_of_verdict_4_differ(room: &Room) -> Done {
         "request=1,0,0,0\nresponse=1,0,1\nrequest=1,0,0,0\nresponse=1,0,1\n",
         "request=1,9,0,0\nresponse=1,0,1\n",
         "response=1,0,0\n",
-        "request=1,0,0,0\n",
     ]);
     check_causes(&room.batch("batch", "case-c"), "trace.txt", 4, &cases);
     Ok(())

@@ -21,7 +21,7 @@ fn explain(verdict: &str) -> Ended {
 
 fn explain_every_verdict(_: &Room) -> Done {
     let mut texts = BTreeSet::new();
-    for verdict in 0..=16 {
+    for verdict in (0..=14).chain([16]) {
         let ended = explain(&verdict.to_string());
         let text = ended.is(0).text();
         let mut words = text.split(|c: char| !c.is_alphanumeric());
@@ -36,12 +36,13 @@ fn explain_every_verdict(_: &Room) -> Done {
         assert!(ended.said().is_empty(), "{ended}");
         texts.insert(text);
     }
-    assert_eq!(texts.len(), 17, "each says something of its own");
+    assert_eq!(texts.len(), 16, "each says something of its own");
     Ok(())
 }
 
 fn explain_nothing_else(_: &Room) -> Done {
     for word in [
+        "15",
         "17",
         "99",
         "accepted",

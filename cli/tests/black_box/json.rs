@@ -19,7 +19,7 @@ pub enum Value {
 pub type Object = BTreeMap<String, Value>;
 
 /// The keys that every object has.
-pub const KEYS: [&str; 15] = [
+pub const KEYS: [&str; 16] = [
     "batch",
     "state",
     "verdict",
@@ -30,6 +30,7 @@ pub const KEYS: [&str; 15] = [
     "operations",
     "blocks",
     "rest",
+    "open",
     "order",
     "sentence",
     "version",

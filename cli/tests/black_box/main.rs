@@ -18,6 +18,7 @@ mod kills;
 mod launcher;
 mod library;
 mod many;
+mod open;
 mod order;
 mod order_answers;
 mod record;
@@ -52,6 +53,7 @@ fn main() -> ExitCode {
         order::TESTS,
         order_answers::TESTS,
         bill::TESTS,
+        open::TESTS,
         texts::TESTS,
         unreadable::TESTS,
         streams::TESTS,

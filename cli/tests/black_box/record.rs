@@ -164,7 +164,6 @@ fn a_refused_schedule_leaves_out_alone(room: &Room) -> Done {
     for name in [
         "refused-13-schedule-unreadable",
         "refused-14-turn-before-arrival",
-        "refused-15-request-left-open",
     ] {
         record(example(name), place.join("above/out")).is(1);
         assert!(names_in(&place).is_empty(), "nothing is made of {name}");

@@ -2,7 +2,7 @@
 
 use crate::csv;
 use crate::identity::about;
-use crate::room::{names, names_in, read, tree, TEXTS};
+use crate::room::{left_open, names, names_in, read, tree, TEXTS};
 use crate::run::audit_all;
 use std::collections::BTreeMap;
 use std::ffi::{OsStr, OsString};
@@ -25,9 +25,10 @@ pub struct Row {
     pub rest: String,
     pub time: String,
     pub sentence: String,
+    pub open: String,
 }
 
-pub const HEADING: [&str; 10] = [
+pub const HEADING: [&str; 11] = [
     "batch",
     "state",
     "verdict",
@@ -38,6 +39,7 @@ pub const HEADING: [&str; 10] = [
     "rest",
     "time",
     "sentence",
+    "open",
 ];
 
 /// The rows of the table below its heading.
@@ -46,7 +48,7 @@ pub fn rows(results: &Path) -> Vec<Row> {
     let mut records = csv::records(&read(results.join("table.csv"))).into_iter();
     assert_eq!(records.next().expect("a heading"), HEADING);
     let row = |record: Vec<String>| {
-        let [batch, state, verdict, line, requests, operations, blocks, rest, time, sentence] =
+        let [batch, state, verdict, line, requests, operations, blocks, rest, time, sentence, open] =
             record.try_into().unwrap();
         Row {
             batch,
@@ -59,6 +61,7 @@ pub fn rows(results: &Path) -> Vec<Row> {
             rest,
             time,
             sentence,
+            open,
         }
     };
     let rows: Vec<Row> = records.map(row).collect();
@@ -68,15 +71,15 @@ pub fn rows(results: &Path) -> Vec<Row> {
     rows
 }
 
-/// A row has a verdict and a bill only where it is accepted or refused.
+/// A row has a verdict, a bill and a number of open requests only where it is accepted or refused.
 #[track_caller]
 fn check_row(row: &Row) {
     match row.state.as_str() {
         "accepted" => assert_eq!((&*row.verdict, &*row.line), ("0", "0"), "{row:?}"),
         "refused" => assert!(!matches!(&*row.verdict, "" | "0"), "{row:?}"),
         "changed" | "failed" | "waiting" => {
-            let bill = (&*row.blocks, &*row.rest);
-            assert_eq!((&*row.verdict, bill), ("", ("", "")), "{row:?}");
+            let numbers = [&row.verdict, &row.blocks, &row.rest, &row.open];
+            assert_eq!(numbers, ["", "", "", ""], "{row:?}");
         }
         _ => panic!("no such state: {row:?}"),
     }
@@ -226,6 +229,11 @@ fn check_row_of(results: &Path, name: &OsStr, rows: &[Row]) {
         behind.is_some_and(|order| row.state == "accepted" || order.is_empty()),
         "{row:?}: {output}"
     );
+    let open = match &*row.state {
+        "accepted" => left_open(&kept),
+        _ => 0,
+    };
+    assert_eq!(row.open, open.to_string(), "{row:?}");
     let lines = read(kept.join("about"));
     assert_eq!(
         (&row.time, &row.sentence),

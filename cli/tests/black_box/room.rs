@@ -110,6 +110,16 @@ pub fn expected_order(name: &str) -> Vec<String> {
     lines.map(String::from).collect()
 }
 
+/// How many requests of a folder's trace have no response with their rid.
+pub fn left_open(folder: &Path) -> usize {
+    let trace = String::from_utf8(read(folder.join("trace.txt"))).unwrap();
+    let rids = |word: &str| -> BTreeSet<&str> {
+        let numbers = trace.lines().filter_map(|line| line.strip_prefix(word));
+        numbers.filter_map(|n| n.split(',').next()).collect()
+    };
+    rids("request=").difference(&rids("response=")).count()
+}
+
 pub fn read(path: impl AsRef<Path>) -> Vec<u8> {
     let path = path.as_ref();
     fs::read(path).unwrap_or_else(|error| panic!("{}: {error}", path.display()))
