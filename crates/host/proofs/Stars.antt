@@ -106,7 +106,7 @@ abbrev times : ℕ → String → List String → List String
 times zero l ls = ls
 times (suc n) l ls = l ∷ times n l ls
 
--- ── the small examples of rows 1, 2 and 13 to 16 ──
+-- ── the small examples of rows 1, 2, 13, 14 and 16 ──
 -- C's trace has 62 bytes, its report 82
 abbrev small : List Case
 small =
@@ -141,11 +141,11 @@ small =
     ∷ "log=8,1,4,8,7,0" ∷ "log=8,1,5,9,7,42" ∷ "log=8,1,6,8,7,42" ∷ []))
     ∷ []
 
-rows-13-to-16 : map records small ≡ map (λ c. c .writes) small
+rows-of-host : map records small ≡ map (λ c. c .writes) small
 unfolding recordOf batchRecorded readPrograms readSchedule readText readLines addLine lineOf fieldsOf fieldOf prefix numberOf digitsOf pushOf
     parts onto within addProgram addDo addArrive addTurn go effectAs upd
     traceText reportText linesText eventText ofText entryText lineText numbersText separatorOf decimal digitsIn
-rows-13-to-16 = refl
+rows-of-host = refl
 
 -- ── the edges: a program that reads as each second instruction, so that the 128th operation is the 256th instruction ──
 abbrev reading : List String

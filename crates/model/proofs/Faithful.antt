@@ -49,7 +49,7 @@ events-append [] ys = refl
 events-append (event e ∷ xs) ys = ap (λ t. e ∷ t) (events-append xs ys)
 events-append (operation r k ∷ xs) ys = events-append xs ys
 
-pub requested-append : (r : ℕ) (es fs : List Event) → requested r (es ++ fs) ≡ (requested r es || requested r fs)
+requested-append : (r : ℕ) (es fs : List Event) → requested r (es ++ fs) ≡ (requested r es || requested r fs)
 requested-append r [] fs = refl
 requested-append r (Request q prog a b ∷ es) fs = byBool (eqb q r) (λ e. rw e) (λ e. rw e (requested-append r es fs))
 requested-append r (Response q s v ∷ es) fs = requested-append r es fs

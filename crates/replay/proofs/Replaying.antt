@@ -34,7 +34,7 @@ use Rattle.replay.specs.declared.replays.Replied.the-variants.{Silent, S
 
 -- ── the definition of a replay, step by step ──
 module _ (M : Machine) (f : ℕ → Claim M) (reply : Reply) where
-  open Machine M using (Process, advance, resume, pathSoFar, pathAtEnd)
+  open Machine M using (Process, advance, resume)
 
   abbrev replays : (n k : ℕ) → Process → Outcome
   replays n k p = replay M f reply n k p (advance p)
@@ -102,6 +102,7 @@ module _ (base done : ℕ) (paths : List ℕ) (h : base + done < length paths) (
 abbrev process : (prog : ℕ) (l : List ℕ) (at done : ℕ) → List ℕ → Process
 process prog l at done path = record { prog = prog; locals = l; at = at; done = done; path = path }
 
+-- it is never above the limit
 most-within : (isOpen : Bool) (k count done most : ℕ) → most ≡ mostOf isOpen k count done → done ≤ 256 → most ≤ 256
 most-within isOpen k count done most e h = byBool (isOpen && eqb k count)
     (λ t. omega (arith, rw t at e))
@@ -156,64 +157,59 @@ module _ (logs : List ℕ) (n : ℕ) (answers : List ℕ) (rid count : ℕ) (isO
     abbrev here : ℕ → Process
     here prog = process prog l at done (pathIn paths base done)
 
-    -- how the replay comes out from here on
-    abbrev Comes : Setting logs n answers → (prog : ℕ) → Outcome → Type 0
-    Comes w prog x = (reply : Reply) → leftOpen reply ≡ isOpen → replayOf w rid reply (count - k) (suc k) (here prog) ≡ x
+    -- how the replay comes out from here on with so many operations left to do, of any program with this code and any response
+    abbrev Comes : (left : ℕ) → (ℕ → Outcome) → Type 0
+    Comes left x = (w : Setting logs n answers) (prog : ℕ) → codeAt (w .table) prog ≡ code → (reply : Reply) → leftOpen reply ≡ isOpen →
+        replayOf w rid reply left (suc k) (here prog) ≡ x prog
 
-    from-start : (w : Setting logs n answers) (prog : ℕ) (reply : Reply) → codeAt (w .table) prog ≡ code → leftOpen reply ≡ isOpen →
-        (a b : ℕ) → l₀ ≡ firstLocals a b → replayOf w rid reply (count - k) (suc k) (here prog)
-        ≡ replayOf w rid reply count 1 (machineOf (w .table) .start prog a b)
-    from-start w prog reply c o a b d =
-        g .goes w prog reply c o ∙ ap (λ l. replayOf w rid reply count 1 (process prog l 0 0 [])) d
+    none-left : (x : ℕ → Outcome) → k ≡ count → Comes 0 x → Comes (count - k) x
+    none-left x p c w prog d reply o = let z : count - k ≡ 0 = omega arith in rw z (c w prog d reply o)
 
-    -- what is said of the operations left to do, of their number
-    abbrev Counted : Setting logs n answers → (prog left : ℕ) → Outcome → Type 0
-    Counted w prog left x = (reply : Reply) → leftOpen reply ≡ isOpen → replayOf w rid reply left (suc k) (here prog) ≡ x
+    some-left : (x : ℕ → Outcome) → k < count → Comes (suc (count - (k + 1))) x → Comes (count - k) x
+    some-left x h c w prog d reply o = let z : count - k ≡ suc (count - (k + 1)) = omega arith in rw z (c w prog d reply o)
 
-    none-left : (w : Setting logs n answers) (prog : ℕ) (x : Outcome) → k ≡ count → Counted w prog 0 x → Comes w prog x
-    none-left w prog x p c reply o = let z : count - k ≡ 0 = omega arith in rw z (c reply o)
+    -- what the request does next
+    abbrev Does : Next → Type 0
+    Does y = (w : Setting logs n answers) (prog : ℕ) → codeAt (w .table) prog ≡ code → machineOf (w .table) .advance (here prog) ≡ y
 
-    some-left : (w : Setting logs n answers) (prog : ℕ) (x : Outcome) → k < count → Counted w prog (suc (count - (k + 1))) x → Comes w prog x
-    some-left w prog x h c reply o = let z : count - k ≡ suc (count - (k + 1)) = omega arith in rw z (c reply o)
+    -- so it comes out from the start
+    from-start : (x : ℕ → Outcome) → Comes (count - k) x → (a b : ℕ) → l₀ ≡ firstLocals a b → (w : Setting logs n answers) (prog : ℕ)
+        (reply : Reply) → codeAt (w .table) prog ≡ code → leftOpen reply ≡ isOpen →
+        x prog ≡ replayOf w rid reply count 1 (machineOf (w .table) .start prog a b)
+    from-start x c a b e w prog reply d o =
+        sym (c w prog d reply o) ∙ g .goes w prog reply d o ∙ ap (λ l. replayOf w rid reply count 1 (process prog l 0 0 [])) e
 
-    -- a request that stops here with a reply: the report counts its operations, or not
+    -- a request that stops here with a reply: the report counts its operations, or it comes to its end before they are done
     stopping : (paths′ : List ℕ) (done′ : ℕ) (reply′ : Replied) → length paths′ ≡ 16384 →
         ((i : ℕ) → i < base → getD paths′ i 0 ≡ getD old i 0) → done′ ≤ 256 →
-        ((w : Setting logs n answers) (prog : ℕ) → codeAt (w .table) prog ≡ code → k ≡ count →
-        Comes w prog (ended (repliedAs reply′) (prog ∷ pathIn paths′ base done′))) →
-        ((w : Setting logs n answers) (prog : ℕ) → codeAt (w .table) prog ≡ code → k < count → Comes w prog differs) →
+        (k ≡ count → Comes 0 (λ prog. ended (repliedAs reply′) (prog ∷ pathIn paths′ base done′))) →
+        (s v : ℕ) → (k < count → Does (stop s v)) →
         (end : End) → end ≡ cond (eqb k count) (Ended reply′ done′) Differs → Ends paths′ end
-    stopping paths′ done′ reply′ room kept few last short end e a b start = byEq k count
+    stopping paths′ done′ reply′ room kept few last s v next end e a b start = byEq k count
         (λ p t.
         let c : end ≡ Ended reply′ done′ = rw t at e in
         subst (Replays logs n answers rid count a b isOpen base code old paths′) (sym c) (record {
           room = room;
           kept = kept;
           few = few;
-          outcome = λ w prog reply d o. sym (last w prog d p reply o) ∙ from-start w prog reply d o a b start;
+          outcome = from-start _ (none-left _ p (last p)) a b start;
         }))
         (λ p t.
         let c : end ≡ Differs = rw t at e in
+        let h : k < count = omega (arith, g .counted) in
         subst (Replays logs n answers rid count a b isOpen base code old paths′) (sym c) (record {
           room = room;
           kept = kept;
           few = omega arith;
-          outcome = λ w prog reply d o. sym (short w prog d (omega (arith, g .counted)) reply o) ∙ from-start w prog reply d o a b start;
+          outcome = from-start _ (some-left (λ prog. differs) h (λ w prog d reply o.
+              too-few (machineOf (w .table)) (claimed w) reply (suc k) (here prog) (count - (k + 1)) s v (next h w prog d))) a b start;
         }))
-
-    -- a request that comes to its end before all its operations are done
-    stops-short : (s v : ℕ) → ((w : Setting logs n answers) (prog : ℕ) → codeAt (w .table) prog ≡ code →
-        machineOf (w .table) .advance (here prog) ≡ stop s v) →
-        (w : Setting logs n answers) (prog : ℕ) → codeAt (w .table) prog ≡ code → k < count → Comes w prog differs
-    stops-short s v next w prog d h = some-left w prog differs h
-        (λ reply o. too-few (machineOf (w .table)) (claimed w) reply (suc k) (here prog) (count - (k + 1)) s v (next w prog d))
 
     -- a request that goes no further is left open behind its last operation, or has used up its instructions and is cut off
     pub going-no-further : most ≤ done → (reply′ : Replied) → reply′ ≡ cond isOpen Silent (Said 1 0) →
         (end : End) → end ≡ cond (eqb k count) (Ended reply′ done) Differs → Ends paths end
     going-no-further h reply′ r end e =
-        stopping paths done reply′ (g .room) (g .kept) (g .few) (λ w prog d p. none-left w prog _ p (last w prog))
-        (λ w prog d z. stops-short 1 0 (λ w prog d. cuts w prog (early z)) w prog d z) end e
+        stopping paths done reply′ (g .room) (g .kept) (g .few) (λ p. last) 1 0 (λ z w prog d. cuts w prog (early z)) end e
       where
         used : isOpen ≡ false → 256 ≤ done
         used t = omega (arith, rw t at (g .bound))
@@ -228,8 +224,8 @@ module _ (logs : List ℕ) (n : ℕ) (answers : List ℕ) (rid count : ℕ) (isO
         cuts : (w : Setting logs n answers) (prog : ℕ) → 256 ≤ done → machineOf (w .table) .advance (here prog) ≡ stop 1 0
         cuts w prog c = ap (λ t. nextOf (t .stop .next)) (cut w prog c)
 
-        last : (w : Setting logs n answers) (prog : ℕ) → Counted w prog 0 (ended (repliedAs reply′) (prog ∷ pathIn paths base done))
-        last w prog reply o = byBool isOpen
+        last : Comes 0 (λ prog. ended (repliedAs reply′) (prog ∷ pathIn paths base done))
+        last w prog d reply o = byBool isOpen
             (λ t.
             let c : reply′ ≡ Silent = rw t at r in
             rw c (left (machineOf (w .table)) (claimed w) (suc k) (here prog) reply (o ∙ t)))
@@ -287,12 +283,12 @@ module _ (logs : List ℕ) (n : ℕ) (answers : List ℕ) (rid count : ℕ) (isO
       }
 
       -- a fault at this instruction
-      differing : ((w : Setting logs n answers) (prog : ℕ) → codeAt (w .table) prog ≡ code → Comes w prog differs) → Ends marked Differs
+      differing : Comes (count - k) (λ prog. differs) → Ends marked Differs
       differing f a b d = record {
         room = room-marked;
         kept = kept-marked;
         few = omega arith;
-        outcome = λ w prog reply c o. sym (f w prog c reply o) ∙ from-start w prog reply c o a b d;
+        outcome = from-start (λ prog. differs) f a b d;
       }
 
       module _ (o : Op) (into : ℕ) (q : x ≡ Asks o into) where
@@ -301,14 +297,14 @@ module _ (logs : List ℕ) (n : ℕ) (answers : List ℕ) (rid count : ℕ) (isO
             (pathIn paths base done ++ (at % 64) ∷ [])
         asks w prog d = asked limit (w .table) (here prog) (omega (arith, unbound)) m o into (does w prog (Asks o into) d q)
 
-        next : (w : Setting logs n answers) (prog : ℕ) → codeAt (w .table) prog ≡ code → machineOf (w .table) .advance (here prog) ≡ op o
+        next : Does (op o)
         next w prog d = ap (λ t. nextOf (t .stop .next)) (asks w prog d)
 
         pub going-over : count ≤ k → Ends marked Differs
         going-over z =
             let p : k ≡ count = omega (arith, g .counted) in
-            differing (λ w prog d. none-left w prog differs p
-            (λ reply c. one-more (machineOf (w .table)) (claimed w) (suc k) (here prog) reply (c ∙ answered-at p) o (next w prog d)))
+            differing (none-left (λ prog. differs) p (λ w prog d reply c.
+            one-more (machineOf (w .table)) (claimed w) (suc k) (here prog) reply (c ∙ answered-at p) o (next w prog d)))
 
         module _ (low : k < count) where
           answer : (y z : Answered) → Answers logs n answers rid (k + 1) o y → y ≡ z → (w : Setting logs n answers) →
@@ -317,8 +313,8 @@ module _ (logs : List ℕ) (n : ℕ) (answers : List ℕ) (rid count : ℕ) (isO
               sym (subst (λ j. answeredAs y ≡ compare (machineOf (w .table)) o (claimed w j)) (add-one k) (f w)) ∙ ap answeredAs p
 
           pub going-wrong : (y : Answered) → Answers logs n answers rid (k + 1) o y → y ≡ Wrong → Ends marked Differs
-          going-wrong y f p = differing (λ w prog d. some-left w prog differs low
-              (λ reply c. unanswered (machineOf (w .table)) (claimed w) reply (suc k) (here prog) (count - (k + 1)) o (next w prog d)
+          going-wrong y f p = differing (some-left (λ prog. differs) low (λ w prog d reply c.
+              unanswered (machineOf (w .table)) (claimed w) reply (suc k) (here prog) (count - (k + 1)) o (next w prog d)
               (answer y Wrong f p w)))
 
           pub going-right : (y : Answered) (u : ℕ) → Answers logs n answers rid (k + 1) o y → y ≡ Right u → (most′ : ℕ) →
@@ -349,15 +345,16 @@ module _ (logs : List ℕ) (n : ℕ) (answers : List ℕ) (rid count : ℕ) (isO
       pub going-replied : (u : ℕ) → x ≡ Replies u → (end : End) → end ≡ cond (eqb k count) (Ended (Said 0 u) (done + 1)) Differs →
           Ends marked end
       going-replied u q end c =
-          stopping marked (done + 1) (Said 0 u) room-marked kept-marked (omega (arith, unbound))
-          (λ w prog d p. none-left w prog _ p (λ reply o.
-          ends (machineOf (w .table)) (claimed w) (suc k) (here prog) reply (o ∙ answered-at p) 0 u (next w prog d)
-          ∙ ap (λ path. ended (said 0 u) (prog ∷ path)) (ap (λ t. t .path) (replies w prog d) ∙ sym path-marked)))
-          (stops-short 0 u next) end c
+          stopping marked (done + 1) (Said 0 u) room-marked kept-marked (omega (arith, unbound)) last 0 u (λ h. next) end c
         where
           replies : (w : Setting logs n answers) (prog : ℕ) → codeAt (w .table) prog ≡ code →
               gone limit (w .table) (here prog) ≡ advanced m (stopAt (at % 64 + 1) (done + 1) (Replying u)) (pathIn paths base done ++ (at % 64) ∷ [])
           replies w prog d = replied limit (w .table) (here prog) (omega (arith, unbound)) m u (does w prog (Replies u) d q)
 
-          next : (w : Setting logs n answers) (prog : ℕ) → codeAt (w .table) prog ≡ code → machineOf (w .table) .advance (here prog) ≡ stop 0 u
+          next : Does (stop 0 u)
           next w prog d = ap (λ t. nextOf (t .stop .next)) (replies w prog d)
+
+          last : k ≡ count → Comes 0 (λ prog. ended (said 0 u) (prog ∷ pathIn marked base (done + 1)))
+          last p w prog d reply o =
+              ends (machineOf (w .table)) (claimed w) (suc k) (here prog) reply (o ∙ answered-at p) 0 u (next w prog d)
+              ∙ ap (λ path. ended (said 0 u) (prog ∷ path)) (ap (λ t. t .path) (replies w prog d) ∙ sym path-marked)
