@@ -31,6 +31,7 @@ pub mod Weaker
 pub mod Printed
 pub mod ByRule
 pub mod Closing
+pub mod LeftOpen
 pub mod Answers
 pub mod Orders
 -- Computed examples

@@ -1,17 +1,18 @@
 -- The theorems, each proved by one citation: over any machine, any contents at the start, and any set of known programs.
-use mathlib.Core.Bool.{Bool}
-use mathlib.Core.List.{List, map}
+use mathlib.Core.Bool.{Bool, false}
+use mathlib.Core.List.{List, map, List·Memᴰ}
 use mathlib.Core.Logic.{_↔_}
 use mathlib.Core.Path.{_≡_}
 use Prim.Native.Nat.{ℕ}
 use Rattle.basics.specs.Lists.{All}
+use Rattle.text.specs.declared.report.Of.{Of}
 use Rattle.text.specs.declared.schedule.Move.{Move}
 use Rattle.ordering.specs.FirstFree.{Greedy}
 use Rattle.model.specs.Allowed.{Allowed}
 use Rattle.model.specs.Answers.{written, answerOf, loggedAnswer}
 use Rattle.model.specs.Audit.{audit}
 use Rattle.model.specs.Claims.{NoneTo8}
-use Rattle.model.specs.Batch.{Batch, logOf, Node}
+use Rattle.model.specs.Batch.{Batch, logOf, answered, Node}
 use Rattle.model.specs.Bounds.{Within, Bounded}
 use Rattle.model.specs.ByRule.{itemOf, ByRule}
 use Rattle.model.specs.Checks.{verdict}
@@ -20,12 +21,12 @@ use Rattle.model.specs.Host.{made, recorded}
 use Rattle.model.specs.Machine.{Machine}
 use Rattle.model.specs.Nodes.{nodes, mergeOf}
 use Rattle.model.specs.Orders.{OrderOf}
-use Rattle.model.specs.PlainRun.{Item, initial}
+use Rattle.model.specs.PlainRun.{Item, opened, initial}
 use Rattle.model.specs.Precedes.{Leads, Returns, ReturnsWeakly}
 use Rattle.model.specs.Ranges.{FitMove, FitBatch}
 use Rattle.model.specs.Replay.{claim}
 use Rattle.model.proofs.Audited.{audit-demand, audit-zero, audit-nine, audit-nine-line}
-use Rattle.model.proofs.Orders.{allowed-orders, same-answers, same-contents, one-printed, printed-allowed, one-by-rule, rule-allowed}
+use Rattle.model.proofs.Orders.{allowed-orders, same-answers, same-contents, open-stops, one-printed, printed-allowed, one-by-rule, rule-allowed}
 use Rattle.model.proofs.Ranges.{recorded-fit}
 use Rattle.model.proofs.Recorded.{recorded-accepted}
 use Rattle.model.proofs.Weaker.{audit-nine-weaker}
@@ -75,6 +76,11 @@ module _ (M : Machine) (opening : ℕ → M .Content) (known : ℕ → Bool) whe
     -- and end with the contents that the reported logs give.
     pub contents : (a : Allowed M opening b) (o : ℕ) → a .final .contents o ≡ written M (opening o) (logOf o (b .log))
     contents = same-contents M opening known b v
+
+    -- In each of them a request that was never answered stops behind the operations that its `of` line counts.
+    pub left-open : (a : Allowed M opening b) (x : Of) → List·Memᴰ x (b .ofs) → answered (x .rid) (b .trace) ≡ false →
+        (p : M .Process) × (a .final .phase (x .rid) ≡ opened p (x .count))
+    left-open = open-stops M opening known b v
 
     -- Exactly one order takes at each step the first item that waits for none that is left: the merge's.
     pub printed : (order : List Node) → Greedy (Leads b) (nodes b) order ↔ (order ≡ mergeOf b .0)

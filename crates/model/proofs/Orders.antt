@@ -1,27 +1,29 @@
--- The orders of a batch that the audit accepts: the allowed ones are the orders of its items, all of them answer and end alike, and one of
--- them is the merge's.
-use mathlib.Core.Bool.{Bool}
-use mathlib.Core.List.{List, map}
+-- The orders of a batch that the audit accepts: the allowed ones are the orders of its items, all of them answer and end alike, with the
+-- same requests left open, and one of them is the merge's.
+use mathlib.Core.Bool.{Bool, false}
+use mathlib.Core.List.{List, map, List·Memᴰ}
 use mathlib.Core.Logic.{_↔_}
 use mathlib.Core.Path.{_≡_, sym, subst, _∙_}
 use Prim.Native.Nat.{ℕ}
+use Rattle.text.specs.declared.report.Of.{Of}
 use Rattle.ordering.specs.FirstFree.{Greedy}
 use Rattle.model.specs.Allowed.{Allowed}
 use Rattle.model.specs.Answers.{written, answerOf, loggedAnswer}
 use Rattle.model.specs.Audit.{audit}
-use Rattle.model.specs.Batch.{Batch, logOf, Node}
+use Rattle.model.specs.Batch.{Batch, logOf, answered, Node}
 use Rattle.model.specs.ByRule.{itemOf, ByRule}
 use Rattle.model.specs.Checks.{verdict}
 use Rattle.model.specs.Machine.{Machine}
 use Rattle.model.specs.Nodes.{nodes, mergeOf}
 use Rattle.model.specs.Orders.{OrderOf}
-use Rattle.model.specs.PlainRun.{Item, initial}
+use Rattle.model.specs.PlainRun.{Item, opened, initial}
 use Rattle.model.specs.Precedes.{Leads}
 use Rattle.model.specs.Replay.{claim}
 use Rattle.model.proofs.Answers.{logged-answers}
 use Rattle.model.proofs.Audited.{Accepted, accepted-formed, audit-accepted}
 use Rattle.model.proofs.ByRule.{only-by-rule}
 use Rattle.model.proofs.Closing.{closing}
+use Rattle.model.proofs.LeftOpen.{stops-open}
 use Rattle.model.proofs.Placed.{place}
 use Rattle.model.proofs.Printed.{printed-order}
 use Rattle.model.proofs.Sound.{order-allowed, merge-is-order}
@@ -47,6 +49,10 @@ module _ (M : Machine) (opening : ℕ → M .Content) (known : ℕ → Bool) (b 
 
   pub same-contents : (a : Allowed M opening b) (o : ℕ) → a .final .contents o ≡ written M (opening o) (logOf o (b .log))
   same-contents = closing M opening b formed
+
+  pub open-stops : (a : Allowed M opening b) (x : Of) → List·Memᴰ x (b .ofs) → answered (x .rid) (b .trace) ≡ false →
+      (p : M .Process) × (a .final .phase (x .rid) ≡ opened p (x .count))
+  open-stops = stops-open M opening b formed
 
   pub one-printed : (order : List Node) → Greedy (Leads b) (nodes b) order ↔ (order ≡ mergeOf b .0)
   one-printed = printed-order b formed (accepted .passes .reported) (accepted .passes .merged)

@@ -40,6 +40,7 @@ module _ (M : Machine) (r : ℕ) where
   start-opens (Request q prog a b) h = refl
   start-opens (Response q s v) h = clash (cc)
 
+-- what an event has for its request: its response, or none
 abbrev pub replyFrom : Event → Reply
 replyFrom (Request q prog a b) = silent
 replyFrom (Response q s v) = said s v

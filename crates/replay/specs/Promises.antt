@@ -115,6 +115,7 @@ abbrev pub repliedAs : Replied → Reply
 repliedAs Silent = silent
 repliedAs (Said status value) = said status value
 
+-- whether it was left open
 abbrev pub leftOpen : Reply → Bool
 leftOpen silent = true
 leftOpen (said status value) = false

@@ -173,10 +173,10 @@ opens =
     ("of=1,0,1" ∷ "of=2,0,1" ∷ "log=1,1,1,6,0,0" ∷ "log=1,2,1,6,0,0" ∷ []) (accepted 2 2)
     ∷ []
 
-left-open : map audits opens ≡ map (λ c. c .finds) opens
+open-requests : map audits opens ≡ map (λ c. c .finds) opens
 unfolding auditOf readPrograms readTrace readReport readText readLines addLine lineOf fieldsOf fieldOf prefix numberOf digitsOf pushOf
     parts onto within addProgram addDo addRequest addResponse addOf addLog go effectAs upd bump
-left-open = refl
+open-requests = refl
 
 -- ── the bill ──
 -- at 0, about the whole hundreds, and at most; of a refusal nothing
