@@ -71,7 +71,18 @@ differences :
 unfolding effectAs
 differences = refl
 
-comparisons : makes 4 0 0 ∷ makes 4 7 7 ∷ makes 4 0 top ∷ makes 4 top 0 ∷ makes 4 top top ∷ [] ≡ 0 ∷ 0 ∷ 1 ∷ 0 ∷ 0 ∷ []
+-- a row for each x, a column for each y: equal locals, both ends, and the two sides of 2 ^ 63
+abbrev ends : List ℕ
+ends = 0 ∷ 7 ∷ (2 ^ 63 - 1) ∷ (2 ^ 63) ∷ top ∷ []
+
+comparisons :
+    map (λ x. map (makes 4 x) ends) ends
+    ≡ (0 ∷ 1 ∷ 1 ∷ 1 ∷ 1 ∷ [])
+    ∷ (0 ∷ 0 ∷ 1 ∷ 1 ∷ 1 ∷ [])
+    ∷ (0 ∷ 0 ∷ 0 ∷ 1 ∷ 1 ∷ [])
+    ∷ (0 ∷ 0 ∷ 0 ∷ 0 ∷ 1 ∷ [])
+    ∷ (0 ∷ 0 ∷ 0 ∷ 0 ∷ 0 ∷ [])
+    ∷ []
 unfolding effectAs
 comparisons = refl
 

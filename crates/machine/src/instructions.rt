@@ -2,6 +2,7 @@
 use crate::limits::LOCAL_NUMBERS;
 use crate::limits::LOCALS;
 use crate::limits::NO_LOCAL;
+use bits::half_sum;
 use text::ADD;
 use text::CONSTANT;
 use text::GET;
@@ -43,11 +44,12 @@ fn put_local(l: &mut [u64; LOCALS], i: u64, v: u64)
     l[(i % LOCAL_NUMBERS) as usize] = v;
 }
 
-// Code 4 is a function of its own, so that how its 1 or 0 is made stays in here.
+// Code 4 is a function of its own, so that how its 1 or 0 is made stays in here: by arithmetic and bit operations alone, with no branch and no
+// comparison. `!x` is 2^64 - 1 - x, so x is below y exactly when `!x + y` is 2^64 or more, and then the highest bit of half of it is 1.
 fn below(x: u64, y: u64) -> u64
     ensures { λ r. ⌜ r ≡ bit (ltb x y) ⌝ }
 {
-    if x < y { 1 } else { 0 }
+    half_sum(!x, y) >> 63
 }
 
 // Local a becomes v, and the request goes on at `next`.

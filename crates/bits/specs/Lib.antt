@@ -1,0 +1,2 @@
+-- The definitions: the bits of a number (Bits).
+pub mod Bits
