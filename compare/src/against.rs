@@ -8,7 +8,7 @@ use crate::host::record;
 use crate::order::order;
 use crate::plain::Item;
 use crate::proved;
-use crate::texts::{BatchTexts, TEXT_LIMIT};
+use crate::texts::TEXT_LIMIT;
 
 pub const AGAINST_PROVED: [Check; 7] = [
     audits_agree,
@@ -250,15 +250,6 @@ fn host_numbers_differ(case: &Case, room: usize) -> Option<String> {
 }
 
 fn what_the_proved_host_writes_is_accepted(case: &Case) -> Option<String> {
-    let programs = &case.batch.programs;
-    let [mut trace, mut report] = [TEXT_LIMIT; 2].map(|room| PATTERN[..room].to_vec());
-    let recorded = proved::record(programs, &case.schedule, &mut trace, &mut report);
-    trace.truncate(recorded.trace_length);
-    report.truncate(recorded.report_length);
-    let written = BatchTexts {
-        programs: programs.clone(),
-        trace,
-        report,
-    };
+    let (recorded, written) = proved::recorded(&case.batch.programs, &case.schedule);
     not_accepted(recorded.verdict, &written, proved::audit)
 }

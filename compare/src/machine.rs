@@ -339,6 +339,8 @@ mod tests {
         assert_eq!(run(below, 1, 1).1, 0);
         assert_eq!(run(below, 0, u64::MAX).1, 1);
         assert_eq!(run(below, u64::MAX, 0).1, 0);
+        assert_eq!(run(below, (1 << 63) - 1, 1 << 63).1, 1);
+        assert_eq!(run(below, 1 << 63, (1 << 63) - 1).1, 0);
     }
 
     #[test]

@@ -13,6 +13,8 @@ mod host;
 mod machine;
 mod maps;
 mod order;
+#[cfg(feature = "proved")]
+mod pairs;
 mod plain;
 #[cfg(feature = "proved")]
 mod proved;
@@ -37,6 +39,7 @@ usage: compare [--alone] [--cases N] [--seed S] [--out DIR] [--vectors DIR]
 
 Runs N cases (10000 if not given): the worked ones, then half from a fixed seed and the rest from seed S
 (taken from the clock if not given, and printed). Each case is a batch, honest or damaged, and a schedule.
+Then the proved functions compare two million pairs of numbers by code 4.
   --alone    only the checks within this implementation: acceptance against a search of all orders, the
              counts against the lines of the texts, the order that is printed against its rule and a plain
              run, and what the host writes against the audit
@@ -233,15 +236,12 @@ fn compare(checks: &[Check], options: &Options) -> ExitCode {
         }
     }
     tally.print();
-    if let Some(folder) = &options.vectors {
-        match vectors::outdated(folder) {
+    for wrong in beside(options) {
+        match wrong {
             None => passed += 1,
-            Some(file) => {
+            Some(wrong) => {
                 failed += 1;
-                println!(
-                    "{} is not what `vectors` writes",
-                    folder.join(file).display()
-                );
+                println!("{wrong}");
             }
         }
     }
@@ -251,6 +251,21 @@ fn compare(checks: &[Check], options: &Options) -> ExitCode {
     } else {
         ExitCode::FAILURE
     }
+}
+
+/// What is looked at once, beside the cases; each says what is wrong, or nothing.
+fn beside(options: &Options) -> Vec<Option<String>> {
+    let mut beside = Vec::new();
+    if let Some(folder) = &options.vectors {
+        let outdated = vectors::outdated(folder).map(|file| folder.join(file));
+        beside
+            .push(outdated.map(|file| format!("{} is not what `vectors` writes", file.display())));
+    }
+    #[cfg(feature = "proved")]
+    if !options.alone {
+        beside.push(pairs::wrong(options.seed));
+    }
+    beside
 }
 
 /// So many differences are reduced and written; the others are counted.

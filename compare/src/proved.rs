@@ -1,7 +1,7 @@
 //! The proved functions, linked from the static library of crate `export`.
 
 use crate::audit::Audited;
-use crate::texts::BatchTexts;
+use crate::texts::{BatchTexts, TEXT_LIMIT};
 
 #[path = "../../crates/export/teaselshears.rs"]
 mod teaselshears;
@@ -62,4 +62,19 @@ pub fn record(programs: &[u8], schedule: &[u8], trace: &mut [u8], report: &mut [
         trace_length: trace_length as usize,
         report_length: report_length as usize,
     }
+}
+
+/// What the host answers, and the batch that it writes where both texts have room.
+pub fn recorded(programs: &[u8], schedule: &[u8]) -> (Recorded, BatchTexts) {
+    let [mut trace, mut report] = [(); 2].map(|()| vec![0; TEXT_LIMIT]);
+    let recorded = record(programs, schedule, &mut trace, &mut report);
+    trace.truncate(recorded.trace_length);
+    report.truncate(recorded.report_length);
+    let programs = programs.to_vec();
+    let written = BatchTexts {
+        programs,
+        trace,
+        report,
+    };
+    (recorded, written)
 }

@@ -1,7 +1,8 @@
 //! The batches and schedules that the scope paper works out, an example of every row of its table, and the
 //! limits, each with the result that the paper gives; full hundreds of operations; orders to read, reads in the
-//! log and open requests, worked out by hand.
+//! log, open requests and comparisons, worked out by hand.
 
+mod comparisons;
 mod hundreds;
 mod limits;
 mod open;
@@ -67,6 +68,7 @@ pub fn batches() -> Vec<Case> {
     cases.extend(hundreds::hundreds());
     cases.extend(reads::reads());
     cases.extend(open::open());
+    cases.extend(comparisons::comparisons());
     cases
 }
 
