@@ -24,7 +24,7 @@ use Rattle.machine.specs.Processes.{go}
 use Rattle.verifier.specs.Faults.{auditOf}
 use Rattle.verifier.specs.declared.Audited.{Audited}
 use Rattle.verifier.proofs.Stars as audit
-use Rattle.verifier.proofs.Stars.{text, audits, programsABC, traceC, reportC, replies}
+use Rattle.verifier.proofs.Stars.{text, audits, programsABC, traceC, reportC, programsWells, traceWells, reportWells, replies}
 use Rattle.host.specs.Printed.{recordedText}
 use Rattle.host.specs.Recorded.{Texts, batchRecorded, recordOf, resultOf}
 use Rattle.host.specs.declared.Recorded.{Recorded}
@@ -139,6 +139,11 @@ small =
     (texts ("request=1,0,7,42" ∷ "response=1,0,42" ∷ [])
     ("of=1,0,6" ∷ "log=0,1,1,6,0,0" ∷ "log=0,1,2,7,0,42" ∷ "log=0,1,3,6,0,42"
     ∷ "log=8,1,4,8,7,0" ∷ "log=8,1,5,9,7,42" ∷ "log=8,1,6,8,7,42" ∷ []))
+    -- a well filled with volume 0, and one never filled
+    ∷ case programsWells
+    ("arrive=1,0,7,0" ∷ "turn=1" ∷ "turn=1" ∷ "arrive=2,1,7,0" ∷ "arrive=3,1,12,0"
+    ∷ "turn=2" ∷ "turn=3" ∷ "turn=2" ∷ "turn=3" ∷ "turn=2" ∷ "turn=3" ∷ []) 65535 65535
+    (texts (traceWells "response=2,0,1" "response=3,0,0") (reportWells "log=8,2,1,10,7,1" "log=8,3,1,10,12,0"))
     ∷ []
 
 rows-of-host : map records small ≡ map (λ c. c .writes) small

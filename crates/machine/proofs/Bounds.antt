@@ -8,20 +8,21 @@ use native.Mathlib.Omega.{arith}
 use lib.Dec.{eqb, ltb}
 use lib.ListN.{getD, set, replicate}
 use Rattle.basics.proofs.Tests.{clash}
-use Rattle.text.specs.Codes.{Code, reply, constant, add, subtract, less, jump, read, write, get, put, other, codeOf, isOperation}
+use Rattle.text.specs.Codes.{Code, reply, constant, add, subtract, less, jump, read, write, get, put, has, other, codeOf, isOperation}
 use Rattle.text.specs.declared.programs.Instr.{Instr}
 use Rattle.text.specs.declared.programs.Program.{Program}
 use Rattle.text.specs.declared.report.Op.{Op}
 use Rattle.model.specs.Machine.{op, stop}
 use Rattle.model.specs.Bounds.{Within, Bounded}
-use Rattle.cells.specs.declared.stores.Cell.the-variants.{Put}
+use Rattle.cells.specs.declared.stores.Cell.{Cell}
+use Rattle.cells.specs.declared.stores.Cell.the-variants.{Never, Put}
 use Rattle.machine.specs.declared.instructions.Act.{Act}
 use Rattle.machine.specs.declared.instructions.Act.the-variants.{Goes, Asks, Replies}
 use Rattle.machine.specs.declared.processes.Next.{Next}
 use Rattle.machine.specs.declared.processes.Next.the-variants.{Operation, Reply, Cut}
 use Rattle.machine.specs.Instructions.{Effect, effectAs, effectOf, local}
 use Rattle.machine.specs.Processes.{Advanced, behind, go, instrAt, resumed}
-use Rattle.machine.specs.Objects.{Content, register, store, reads, apply, changes, written, valueOf, isRead, shown}
+use Rattle.machine.specs.Objects.{Content, register, store, reads, found, apply, changes, written, valueOf, heldOf, isHas, isRead, shown}
 use Rattle.machine.proofs.Steps.{follow}
 use Rattle.machine.specs.Instance.{Process, machine, nextOf, intoOf, codeAt, gone}
 
@@ -121,6 +122,7 @@ near read l i n = (tt, omega arith)
 near write l i n = (tt, omega arith)
 near get l i n = (tt, omega arith)
 near put l i n = (tt, omega arith)
+near has l i n = (tt, omega arith)
 near other l i n = (tt, tt)
 
 pub within : (limit : ℕ) (table : List Program) → Within (machine limit table) 16
@@ -148,6 +150,7 @@ module _ (l : List ℕ) (i : Instr) (n : ℕ) (h : Words l) (w : Word (i .b)) wh
   fits write e = (h, (omega arith, rw e, omega arith, h (i .b % 8)))
   fits get e = (h, (omega arith, rw e, h (i .c % 8), omega arith))
   fits put e = (h, (omega arith, rw e, h (i .b % 8), h (i .c % 8)))
+  fits has e = (h, (omega arith, rw e, h (i .c % 8), omega arith))
   fits other e = (h, tt)
 
 replies : (x : Next) (status value : ℕ) → FitNext Words FitOp Word x → nextOf x ≡ stop status value → (status ≤ 1) × Word value
@@ -173,6 +176,15 @@ module _ (o : Op) (w : Word (o .value)) where
       by : (b : Bool) → FitContent (cond b (written o c) c)
       by true = written-fit c h
       by false = h
+
+-- what an operation finds is a value, or a 1 or 0
+found-fit : (o : Op) (c : Content) → FitContent c → Word (found o c)
+found-fit o (register v) h = h 0
+found-fit o (store cells) h = let cell = cells (o .key) in word-cond (isHas o) (heldOf cell) (valueOf cell) (held cell) (h (o .key))
+  where
+    held : (cell : Cell) → Word (heldOf cell)
+    held Never = omega arith
+    held (Put v) = omega arith
 
 -- a read shows its answer
 shown-fit : (o : Op) (answer : ℕ) → FitOp o → Word answer → FitOp (shown o answer)
@@ -203,7 +215,7 @@ module _ (limit : ℕ) (table : List Program) (words : (prog at : ℕ) → Word 
       let d = operation (r .stop .next) o e in
       let k = g .counted o (d .0) (d .1) in
       let w : FitOp o = subst (FitNext Words FitOp Word) (d .1) (g .next-fit) in
-      let answer : Word (apply o c .0) = word-cond (changes o c) 0 (reads c (o .key)) (omega arith) (h (o .key)) in (
+      let answer : Word (apply o c .0) = word-cond (changes o c) 0 (found o c) (omega arith) (found-fit o c h) in (
         shown-fit o (apply o c .0) w answer,
         left-fit o (w .3) c h,
         (

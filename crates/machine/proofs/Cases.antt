@@ -36,11 +36,11 @@ top = 2 ^ 64 - 1
 abbrev three : List ℕ
 three = 5 ∷ 3 ∷ 9 ∷ 0 ∷ 0 ∷ 0 ∷ 0 ∷ 0 ∷ []
 
--- each code, at locals 5, 3, 9; code 5 taken and not; 10 is no code
+-- each code, at locals 5, 3, 9; code 5 taken and not; 11 is no code
 each-code :
     map (λ i. effectOf three i 1)
     (instr 0 2 0 0 ∷ instr 1 2 7 0 ∷ instr 2 2 0 1 ∷ instr 3 2 0 1 ∷ instr 4 2 1 0 ∷ instr 5 0 4 0 ∷ instr 5 3 4 0
-    ∷ instr 6 2 1 0 ∷ instr 7 1 0 0 ∷ instr 8 2 8 1 ∷ instr 9 8 1 0 ∷ instr 10 2 2 2 ∷ [])
+    ∷ instr 6 2 1 0 ∷ instr 7 1 0 0 ∷ instr 8 2 8 1 ∷ instr 9 8 1 0 ∷ instr 10 2 8 1 ∷ instr 11 2 2 2 ∷ [])
     ≡ effect three (Replies 9)
     ∷ effect (5 ∷ 3 ∷ 7 ∷ 0 ∷ 0 ∷ 0 ∷ 0 ∷ 0 ∷ []) (Goes 1)
     ∷ effect (5 ∷ 3 ∷ 8 ∷ 0 ∷ 0 ∷ 0 ∷ 0 ∷ 0 ∷ []) (Goes 1)
@@ -52,6 +52,7 @@ each-code :
     ∷ effect three (Asks (oper 1 7 0 5) 8)
     ∷ effect three (Asks (oper 8 8 3 0) 2)
     ∷ effect three (Asks (oper 8 9 3 5) 8)
+    ∷ effect three (Asks (oper 8 10 3 0) 2)
     ∷ effect three (Goes 1)
     ∷ []
 unfolding effectAs
@@ -132,11 +133,11 @@ loop-path = refl
 good :
     map (keepsFields 3)
     (instr 0 7 0 0 ∷ instr 1 7 top 0 ∷ instr 2 7 7 7 ∷ instr 3 7 7 7 ∷ instr 4 7 7 7 ∷ instr 5 7 2 0 ∷ instr 6 7 7 0 ∷ instr 7 7 7 0
-    ∷ instr 8 7 8 7 ∷ instr 8 7 15 7 ∷ instr 9 8 7 7 ∷ instr 9 15 7 7 ∷ [])
-    ≡ replicate 12 true
+    ∷ instr 8 7 8 7 ∷ instr 8 7 15 7 ∷ instr 9 8 7 7 ∷ instr 9 15 7 7 ∷ instr 10 7 8 7 ∷ instr 10 7 15 7 ∷ [])
+    ≡ replicate 14 true
 good = refl
 
--- and each at its first bad one; 10 is no code
+-- and each at its first bad one; 11 is no code
 bad :
     map (keepsFields 3)
     (instr 0 8 0 0 ∷ instr 0 7 1 0 ∷ instr 0 7 0 1 ∷ instr 1 8 0 0 ∷ instr 1 7 0 1
@@ -144,8 +145,8 @@ bad :
     ∷ instr 4 8 7 7 ∷ instr 4 7 8 7 ∷ instr 4 7 7 8 ∷ instr 5 8 2 0 ∷ instr 5 7 3 0 ∷ instr 5 7 2 1
     ∷ instr 6 8 7 0 ∷ instr 6 7 8 0 ∷ instr 6 7 7 1 ∷ instr 7 8 7 0 ∷ instr 7 7 8 0 ∷ instr 7 7 7 1
     ∷ instr 8 8 8 7 ∷ instr 8 7 7 7 ∷ instr 8 7 16 7 ∷ instr 8 7 8 8 ∷ instr 9 7 7 7 ∷ instr 9 16 7 7 ∷ instr 9 8 8 7 ∷ instr 9 8 7 8
-    ∷ instr 10 0 0 0 ∷ [])
-    ≡ replicate 32 false
+    ∷ instr 10 8 8 7 ∷ instr 10 7 7 7 ∷ instr 10 7 16 7 ∷ instr 10 7 8 8 ∷ instr 11 0 0 0 ∷ [])
+    ≡ replicate 36 false
 bad = refl
 
 abbrev program : ℕ → List Instr → Program
@@ -181,10 +182,23 @@ answers :
     ≡ 0 ∷ 4 ∷ 0 ∷ 0 ∷ 6 ∷ 0 ∷ 7 ∷ 0 ∷ 0 ∷ 0 ∷ 0 ∷ 6 ∷ 6 ∷ 0 ∷ 1 ∷ 1 ∷ []
 answers = refl
 
+-- Wells 7 and 12 of store 8: asked for, volume 0 put into well 7, asked for again, and both read. Code 8 cannot tell them apart, code 10 can. Then a
+-- volume is put over the 0; the same key of another store; and lines of kind 10 with a value, which put nothing, on a store and on a register.
+wells :
+    answersFrom atStart
+    (map (λ o. record { rid = 0; num = 0; op = o })
+    (oper 8 10 7 0 ∷ oper 8 9 7 0 ∷ oper 8 10 7 0 ∷ oper 8 8 7 0 ∷ oper 8 10 12 0 ∷ oper 8 8 12 0
+    ∷ oper 8 9 7 250 ∷ oper 8 10 7 0 ∷ oper 8 8 7 0 ∷ oper 9 10 7 0
+    ∷ oper 8 10 12 1 ∷ oper 8 10 12 0 ∷ oper 0 10 0 5 ∷ oper 0 6 0 0 ∷ []))
+    ≡ 0 ∷ 0 ∷ 1 ∷ 0 ∷ 0 ∷ 0
+    ∷ 0 ∷ 1 ∷ 250 ∷ 0
+    ∷ 0 ∷ 0 ∷ 0 ∷ 0 ∷ []
+wells = refl
+
 -- what the log line of each kind shows, of an operation with the answer 5
 shows :
-    map (λ o. shown o 5) (oper 1 6 0 0 ∷ oper 1 7 0 4 ∷ oper 8 8 2 0 ∷ oper 8 9 2 7 ∷ [])
-    ≡ oper 1 6 0 5 ∷ oper 1 7 0 4 ∷ oper 8 8 2 5 ∷ oper 8 9 2 7 ∷ []
+    map (λ o. shown o 5) (oper 1 6 0 0 ∷ oper 1 7 0 4 ∷ oper 8 8 2 0 ∷ oper 8 9 2 7 ∷ oper 8 10 2 0 ∷ [])
+    ≡ oper 1 6 0 5 ∷ oper 1 7 0 4 ∷ oper 8 8 2 5 ∷ oper 8 9 2 7 ∷ oper 8 10 2 5 ∷ []
 shows = refl
 
 -- ── the plain run of case C's programs ──

@@ -5,7 +5,7 @@ use mathlib.Core.List.{List}
 use mathlib.Core.Path.{_≡_, refl, _∙_}
 use lib.Dec.{ltb}
 use lib.ListN.{length, set, length-set}
-use Rattle.text.specs.Codes.{Code, reply, constant, add, subtract, less, jump, read, write, get, put, other, codeOf}
+use Rattle.text.specs.Codes.{Code, reply, constant, add, subtract, less, jump, read, write, get, put, has, other, codeOf}
 use Rattle.text.specs.declared.programs.Instr.{Instr}
 use Rattle.machine.specs.Instructions.{effectAs, effectOf, noLocal}
 use Rattle.machine.specs.Processes.{Advanced, instrAt, go, resumed}
@@ -25,6 +25,7 @@ effect-length read l i n = refl
 effect-length write l i n = refl
 effect-length get l i n = refl
 effect-length put l i n = refl
+effect-length has l i n = refl
 effect-length other l i n = refl
 
 follow-length : (x : Act) (l : List ℕ) (m n done : ℕ) (f : List ℕ → ℕ → Advanced) →

@@ -1,4 +1,4 @@
--- What the lines of a log leave in an object is the nearest write above: the scope's rule for a read.
+-- What the lines of a log leave in an object is the nearest write above: the scope's rule for a read, and for code 10.
 use Prim.Native.Nat.{ℕ, zero, suc, _≤_, _<_}
 use mathlib.Core.Path.{_≡_, refl, ap, _∙_}
 use mathlib.Core.Bool.{Bool, true, false, cond}
@@ -10,7 +10,7 @@ use Rattle.text.specs.declared.report.Entry.{Entry}
 use Rattle.text.specs.declared.report.Op.{Op}
 use Rattle.cells.specs.declared.stores.Cell.{Cell}
 use Rattle.cells.specs.declared.stores.Cell.the-variants.{Put}
-use Rattle.machine.specs.Objects.{Content, register, store, atStart, valueOf, reads}
+use Rattle.machine.specs.Objects.{Content, register, store, atStart, valueOf, reads, finds, found}
 use Rattle.machine.specs.Logs.{ops, after, afterAll, nearest, writes}
 use Rattle.machine.proofs.LogLaws.{after-snoc}
 
@@ -60,3 +60,8 @@ module _ (line : ℕ → Entry) where
       byBool (ltb object 8)
       (λ t. ap (λ c. reads c key) (register-nearest n object key (ltb-true object 8 t)))
       (λ t. ap (λ c. reads c key) (store-nearest n object (ltb-false object 8 t)))
+
+  -- An operation on a store finds what the nearest earlier put of its key left: of kind 10 it is 1 where there is one, of whatever value, else 0.
+  pub found-nearest : (n object : ℕ) (o : Op) → 8 ≤ object →
+      found o (afterAll atStart (firsts line n) object) ≡ finds o (nearest (ops line) object (o .key) n)
+  found-nearest n object o h = ap (found o) (store-nearest n object h)

@@ -19,7 +19,7 @@ use Rattle.cells.specs.declared.stores.Cell.{Cell}
 use Rattle.cells.specs.declared.stores.Cell.the-variants.{Never, Put}
 use Rattle.cells.specs.Stores.{Contents, Holds, PutsInto, putIn, fits, added}
 use Rattle.cells.proofs.Putting.{blank, holds-same}
-use Rattle.machine.specs.Objects.{Content, register, store, apply, valueOf, isPut, isWrite, atStart}
+use Rattle.machine.specs.Objects.{Content, register, store, apply, finds, isPut, isWrite, atStart}
 use Rattle.machine.specs.Logs.{after, afterAll, answersFrom}
 use Rattle.machine.specs.Held.{Objects, objects, cellsOf, ObjectsHeld, registerLeft, storesLeft, StoreIs, PerformedIs, AnsweredIs}
 use Rattle.machine.proofs.LogLaws.{after-snoc, answers-snoc, answers-length, sets-snoc}
@@ -66,8 +66,8 @@ module _ (c : Contents) (x : Op) where
       }
 
   pub store-look : {cells buckets : List ℕ} {n : ℕ} (cell : Cell) (v : ℕ) → isPut x ≡ false → cell ≡ c (x .object) (x .key) →
-      v ≡ valueOf cell → Holds cells buckets n c → StoreIs n c x cells buckets n v
-  store-look cell v t e d h = record { answer = rw t (d ∙ ap valueOf e); held = holds-same (left-same t) h; few = omega arith }
+      v ≡ finds x cell → Holds cells buckets n c → StoreIs n c x cells buckets n v
+  store-look cell v t e d h = record { answer = rw t (d ∙ ap (finds x) e); held = holds-same (left-same t) h; few = omega arith }
 
 -- ── an operation on any object ──
 -- a register stays a register, a store a store

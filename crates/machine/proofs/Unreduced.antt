@@ -14,7 +14,7 @@ use borrow.Author.Tests.{ltb-true, eqb-false, ne-eqb}
 use Rattle.basics.specs.Lists.{All}
 use Rattle.basics.proofs.Lists.{all-append-left, all-append-right}
 use Rattle.basics.proofs.Tests.{clash, byBool, and-true}
-use Rattle.text.specs.Codes.{Code, reply, constant, add, subtract, less, jump, read, write, get, put, other, isCode, codeOf}
+use Rattle.text.specs.Codes.{Code, reply, constant, add, subtract, less, jump, read, write, get, put, has, other, isCode, codeOf}
 use Rattle.text.specs.declared.programs.Instr.{Instr}
 use Rattle.text.specs.declared.programs.Program.{Program}
 use Rattle.text.specs.declared.report.Op.{Op}
@@ -76,6 +76,7 @@ effectAs read l i n = asks l i (i .b) 0 0 (i .a)
 effectAs write l i n = asks l i (i .a) 0 (local l (i .b)) noLocal
 effectAs get l i n = asks l i (i .b) (local l (i .c)) 0 (i .a)
 effectAs put l i n = asks l i (i .a) (local l (i .b)) (local l (i .c)) noLocal
+effectAs has l i n = asks l i (i .b) (local l (i .c)) 0 (i .a)
 effectAs other l i n = effect l (Goes n)
 
 abbrev pub effectOf : List ℕ → Instr → ℕ → Effect
@@ -177,6 +178,7 @@ module _ (n : ℕ) (l : List ℕ) (i : Instr) where
     effect-same write f = rw (register (i .a) (f .0), below8 (i .b) (f .1))
     effect-same get f = rw (below8 (i .a) (f .0), store (i .b) (f .1), below8 (i .c) (f .2))
     effect-same put f = rw (store (i .a) (f .0), below8 (i .b) (f .1), below8 (i .c) (f .2))
+    effect-same has f = rw (below8 (i .a) (f .0), store (i .b) (f .1), below8 (i .c) (f .2))
     effect-same other f = refl
 
     -- where the request goes on is a position of its program
@@ -202,6 +204,7 @@ module _ (n : ℕ) (l : List ℕ) (i : Instr) where
     onward write f h = h
     onward get f h = h
     onward put f h = h
+    onward has f h = h
     onward other f h = h
 
     -- only the last has none behind it, and its code is 0

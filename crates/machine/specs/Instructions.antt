@@ -5,7 +5,7 @@ use mathlib.Core.Bool.{Bool, cond}
 use lib.ListN.{getD, set}
 use lib.Dec.{ltb, eqb}
 use Rattle.text.specs.Formats.{mostObjects}
-use Rattle.text.specs.Codes.{Code, reply, constant, add, subtract, less, jump, read, write, get, put, other, codeOf}
+use Rattle.text.specs.Codes.{Code, reply, constant, add, subtract, less, jump, read, write, get, put, has, other, codeOf}
 use Rattle.text.specs.declared.programs.Instr.{Instr}
 use Rattle.machine.specs.Limits.{mostLocals}
 use Rattle.machine.specs.declared.instructions.Act.{Act}
@@ -54,6 +54,7 @@ effectAs read l i n = asks l i (i .b) 0 0 (i .a % mostLocals)
 effectAs write l i n = asks l i (i .a) 0 (local l (i .b)) noLocal
 effectAs get l i n = asks l i (i .b) (local l (i .c)) 0 (i .a % mostLocals)
 effectAs put l i n = asks l i (i .a) (local l (i .b)) (local l (i .c)) noLocal
+effectAs has l i n = asks l i (i .b) (local l (i .c)) 0 (i .a % mostLocals)
 effectAs other l i n = effect l (Goes n)
 
 abbrev pub effectOf : List ℕ → Instr → ℕ → Effect

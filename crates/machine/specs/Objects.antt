@@ -26,6 +26,11 @@ abbrev pub valueOf : Cell → ℕ
 valueOf Never = 0
 valueOf (Put v) = v
 
+-- 1 for a key that was put, be it as 0; 0 for a key never put
+abbrev pub heldOf : Cell → ℕ
+heldOf Never = 0
+heldOf (Put v) = 1
+
 -- what a register, at any key, or a store at a key reads
 abbrev pub reads : Content → (key : ℕ) → ℕ
 reads (register v) key = v
@@ -46,15 +51,28 @@ abbrev pub written : Op → Content → Content
 written o (register v) = register (o .value)
 written o (store cells) = store (λ key. cond (eqb (o .key) key) (Put (o .value)) (cells key))
 
+-- kind 10 asks a store whether it holds a key
+abbrev pub isHas : Op → Bool
+isHas o = eqb (o .kind) 10
+
+-- what an operation finds in its key's cell: kind 10 whether the key was put, every other kind the value
+abbrev pub finds : Op → Cell → ℕ
+finds o cell = cond (isHas o) (heldOf cell) (valueOf cell)
+
+-- what it finds in its object
+abbrev pub found : Op → Content → ℕ
+found o (register v) = v
+found o (store cells) = finds o (cells (o .key))
+
 -- an operation's answer, 0 where it changes its object, and what it leaves
 abbrev pub apply : Op → Content → ℕ × Content
-apply o c = (cond (changes o c) 0 (reads c (o .key)), cond (changes o c) (written o c) c)
+apply o c = (cond (changes o c) 0 (found o c), cond (changes o c) (written o c) c)
 
--- kinds 6 and 8 read
+-- kinds 6, 8 and 10 read
 abbrev pub isRead : Op → Bool
-isRead o = eqb (o .kind) 6 || eqb (o .kind) 8
+isRead o = eqb (o .kind) 6 || (eqb (o .kind) 8 || isHas o)
 
--- the value field of an operation's log line, given its answer: the value read, or the value that is written
+-- the value field of an operation's log line, given its answer: what was read, or the value that is written
 abbrev pub logged : Op → ℕ → ℕ
 logged o answer = cond (isRead o) answer (o .value)
 

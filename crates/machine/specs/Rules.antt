@@ -6,7 +6,7 @@ use mathlib.Core.Option.{Option, none, some}
 use lib.ListN.{getD}
 use lib.Dec.{leb, ltb, eqb}
 use Rattle.text.specs.Formats.{mostInstructions, mostObjects}
-use Rattle.text.specs.Codes.{Code, reply, constant, add, subtract, less, jump, read, write, get, put, other, codeOf, isCode}
+use Rattle.text.specs.Codes.{Code, reply, constant, add, subtract, less, jump, read, write, get, put, has, other, codeOf, isCode}
 use Rattle.text.specs.declared.programs.Instr.{Instr}
 use Rattle.text.specs.declared.programs.Program.{Program}
 use Rattle.text.specs.Programs.{noInstr}
@@ -33,6 +33,7 @@ fieldsOf read = fields Local Register Unused
 fieldsOf write = fields Register Local Unused
 fieldsOf get = fields Local Store Local
 fieldsOf put = fields Store Local Local
+fieldsOf has = fields Local Store Local
 fieldsOf other = fields Unused Unused Unused
 
 -- a field may be v, in a program of n instructions

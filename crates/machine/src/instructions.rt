@@ -6,6 +6,7 @@ use bits::half_sum;
 use text::ADD;
 use text::CONSTANT;
 use text::GET;
+use text::HAS;
 use text::Instr;
 use text::JUMP;
 use text::LESS;
@@ -80,7 +81,7 @@ fn asked(l: &[u64; LOCALS], i: Instr) -> Act
     match code {
         READ => Act::Asks(op_of(i.b, code, 0, 0), i.a % LOCAL_NUMBERS),
         WRITE => Act::Asks(op_of(i.a, code, 0, local_at(l, i.b)), NO_LOCAL),
-        GET => Act::Asks(op_of(i.b, code, local_at(l, i.c), 0), i.a % LOCAL_NUMBERS),
+        GET | HAS => Act::Asks(op_of(i.b, code, local_at(l, i.c), 0), i.a % LOCAL_NUMBERS),
         _ => Act::Asks(
             op_of(i.a, code, local_at(l, i.b), local_at(l, i.c)),
             NO_LOCAL,
@@ -115,7 +116,7 @@ pub fn carry_out(l: &mut [u64; LOCALS], i: Instr, next: u64) -> Act
                 Act::Goes(i.b)
             }
         }
-        READ..=PUT => asked(l, i),
+        READ..=HAS => asked(l, i),
         _ => Act::Goes(next),
     }
 }

@@ -11,6 +11,7 @@ use cells::put;
 use text::ENTRIES;
 use text::ENTRY_ROWS;
 use text::GET;
+use text::HAS;
 use text::Op;
 use text::PUT;
 use text::READ;
@@ -23,7 +24,7 @@ ghost use Rattle.basics.specs.Firsts.{firsts};
 ghost use Rattle.text.specs.Formats.{mostEntries};
 ghost use Rattle.text.specs.Held.{entryAt};
 ghost use Rattle.machine.specs.Limits.{firstStore};
-ghost use Rattle.machine.specs.Objects.{register, apply, valueOf, shown};
+ghost use Rattle.machine.specs.Objects.{register, apply, valueOf, heldOf, finds, shown};
 ghost use Rattle.machine.specs.Held.{objects, registerLeft, OnStore, Performs, AnswersAll};
 ghost use Rattle.machine.specs.Logs.{ops};
 
@@ -46,6 +47,26 @@ fn value_of(c: Cell) -> u64
     match c {
         Cell::Never => 0,
         Cell::Put(v) => v,
+    }
+}
+
+// 1 for a key that was put, be it as 0.
+fn held_of(c: Cell) -> u64
+    ensures { λ r. ⌜ r ≡ heldOf c ⌝ }
+{
+    match c {
+        Cell::Never => 0,
+        Cell::Put(_) => 1,
+    }
+}
+
+fn finds(x: Op, c: Cell) -> u64
+    ensures { λ r. ⌜ r ≡ finds x c ⌝ }
+{
+    if x.kind == HAS {
+        held_of(c)
+    } else {
+        value_of(c)
     }
 }
 
@@ -79,7 +100,7 @@ fn on_store(
     }
     let c = look(cells, buckets, x.object, x.key);
     Performed {
-        answer: value_of(c),
+        answer: finds(x, c),
         used,
     }
 }
@@ -102,13 +123,13 @@ pub fn perform(
     on_store(cells, buckets, used, x)
 }
 
-// An operation as its log line has it, given its answer: a read shows the value read.
+// An operation as its log line has it, given its answer: a read shows what it got.
 pub fn shown(x: Op, answer: u64) -> Op
     ensures { λ r. ⌜ r ≡ shown x answer ⌝ }
 {
     let kind = x.kind;
     match kind {
-        READ | GET => Op {
+        READ | GET | HAS => Op {
             object: x.object,
             kind,
             key: x.key,

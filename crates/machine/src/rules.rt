@@ -90,6 +90,11 @@ const FIELDS: [Fields; CODES] = [
         b: Field::Local,
         c: Field::Local,
     },
+    Fields {
+        a: Field::Local,
+        b: Field::Store,
+        c: Field::Local,
+    },
 ];
 
 // A field that names f may be v, in a program of n instructions.

@@ -4,7 +4,7 @@ use Prim.Native.String.{String}
 use mathlib.Core.List.{List, [], _∷_, _++_, map}
 use mathlib.Core.Option.{Option, some, none}
 use mathlib.Core.Path.{_≡_, refl}
-use lib.ListN.{replicate}
+use lib.ListN.{length, replicate}
 use Rattle.lines.specs.Bytes.{bytes}
 use Rattle.lines.specs.Number.{pushOf, digitsOf, numberOf}
 use Rattle.lines.specs.Parts.{onto, parts}
@@ -68,13 +68,13 @@ ranges :
     ∷ "of=65536,63,256\n"
     ∷ "of=65535,64,256\n"
     ∷ "of=65535,63,257\n"
-    ∷ "log=15,65535,256,9,18446744073709551615,18446744073709551615\n"
+    ∷ "log=15,65535,256,10,18446744073709551615,18446744073709551615\n"
     ∷ "log=0,0,0,6,0,0\n"
     ∷ "log=16,0,0,6,0,0\n"
     ∷ "log=0,65536,0,6,0,0\n"
     ∷ "log=0,0,257,6,0,0\n"
     ∷ "log=0,0,0,5,0,0\n"
-    ∷ "log=0,0,0,10,0,0\n"
+    ∷ "log=0,0,0,11,0,0\n"
     ∷ "log=0,0,0,6,18446744073709551616,0\n"
     ∷ "log=0,0,0,6,0,18446744073709551616\n"
     ∷ "log=0,0,0,6,0,1000000000000000000000000\n"
@@ -83,6 +83,10 @@ ranges :
     ≡ none ∷ some 1 ∷ some 1 ∷ some 1 ∷ none ∷ none ∷ some 1 ∷ some 1 ∷ some 1 ∷ some 1 ∷ some 1 ∷ some 1 ∷ some 1 ∷ some 1 ∷ some 2 ∷ []
 unfolding readReport readText readLines addLine addOf addLog within lineOf fieldsOf fieldOf prefix parts onto numberOf digitsOf pushOf
 ranges = refl
+
+-- no line of a log is longer than this one, which has the 62 bytes of `entry-bound`
+longest : length (bytes "log=15,65535,256,10,18446744073709551615,18446744073709551615\n") ≡ 62
+longest = refl
 
 -- a byte above 127; 65,535 bytes, looked at line by line, and 65,536; the limits of lines
 limits :

@@ -1,4 +1,4 @@
--- Laws of the codes' numbers. That the operations are 6 to 9 is for functions that test the range; what is said elsewhere rests on
+-- Laws of the codes' numbers. That the operations are a range of them is for functions that test it; what is said elsewhere rests on
 -- `isOperation` alone.
 use Prim.Native.Nat.{ℕ, _-_, _≤_, _<_}
 use mathlib.Core.Bool.{Bool, true, false, _&&_, false≢true}
@@ -28,21 +28,28 @@ by-table f g same past n = by (isCode n) refl
         ∙ firsts-at g (length codes) n (f other) (ltb-true n (length codes) t)
     by false t = let h = ltb-false n (length codes) t in ap f (List·getD-eq-default codes other h) ∙ past n h
 
-in-range : (k : ℕ) → isOperation k ≡ leb 6 k && leb k 9
-unfolding firsts
-in-range = by-table operates (λ k. leb 6 k && leb k 9) refl (λ k h. rw (le-leb 6 k (omega arith), lt-leb k 9 (omega arith)))
+-- the operations stand together, from the first of them to the last
+abbrev first : ℕ
+first = 6
 
-pub operation-range : (k : ℕ) → isOperation k ≡ true → (6 ≤ k) × (k ≤ 9)
-operation-range k h = go (leb 6 k) refl (sym (in-range k) ∙ h)
+abbrev last : ℕ
+last = 10
+
+in-range : (k : ℕ) → isOperation k ≡ leb first k && leb k last
+unfolding firsts
+in-range = by-table operates (λ k. leb first k && leb k last) refl (λ k h. rw (le-leb first k (omega arith), lt-leb k last (omega arith)))
+
+pub operation-range : (k : ℕ) → isOperation k ≡ true → (first ≤ k) × (k ≤ last)
+operation-range k h = go (leb first k) refl (sym (in-range k) ∙ h)
   where
-    go : (b : Bool) → leb 6 k ≡ b → b && leb k 9 ≡ true → (6 ≤ k) × (k ≤ 9)
-    go true e h = (leb-true 6 k e, leb-true k 9 h)
+    go : (b : Bool) → leb first k ≡ b → b && leb k last ≡ true → (first ≤ k) × (k ≤ last)
+    go true e h = (leb-true first k e, leb-true k last h)
     go false e h = absurd (false≢true h)
 
-pub range-operation : (k : ℕ) → 6 ≤ k → k ≤ 9 → isOperation k ≡ true
-range-operation k h g = in-range k ∙ rw (le-leb 6 k h, le-leb k 9 g) refl
+pub range-operation : (k : ℕ) → first ≤ k → k ≤ last → isOperation k ≡ true
+range-operation k h g = in-range k ∙ rw (le-leb first k h, le-leb k last g) refl
 
-pub not-operation : (k : ℕ) → (6 ≤ k → k ≤ 9 → ⊥) → isOperation k ≡ false
+pub not-operation : (k : ℕ) → (first ≤ k → k ≤ last → ⊥) → isOperation k ≡ false
 not-operation k n = go (isOperation k) refl
   where
     go : (b : Bool) → isOperation k ≡ b → isOperation k ≡ false

@@ -6,11 +6,11 @@ use lib.Dec.{ltb}
 use lib.ListN.{getD, length}
 
 pub data Code : Type 0 where
-  reply constant add subtract less jump read write get put other : Code
+  reply constant add subtract less jump read write get put has other : Code
 
 -- in the order of their numbers, from 0
 abbrev pub codes : List Code
-codes = reply ∷ constant ∷ add ∷ subtract ∷ less ∷ jump ∷ read ∷ write ∷ get ∷ put ∷ []
+codes = reply ∷ constant ∷ add ∷ subtract ∷ less ∷ jump ∷ read ∷ write ∷ get ∷ put ∷ has ∷ []
 
 -- a number past the last is no code
 abbrev pub isCode : ℕ → Bool
@@ -31,6 +31,7 @@ operates read = true
 operates write = true
 operates get = true
 operates put = true
+operates has = true
 operates other = false
 
 abbrev pub isOperation : ℕ → Bool

@@ -3,7 +3,7 @@ ghost use mathlib.Core.Path.{_≡_};
 ghost use Rattle.text.specs.Codes.{isOperation};
 
 // How many there are.
-pub const CODES: usize = 10;
+pub const CODES: usize = 11;
 
 pub const REPLY: u64 = 0;
 
@@ -25,11 +25,13 @@ pub const GET: u64 = 8;
 
 pub const PUT: u64 = 9;
 
+pub const HAS: u64 = 10;
+
 pub fn is_operation(kind: u64) -> bool
     ensures { λ r. ⌜ r ≡ isOperation kind ⌝ }
 {
     match kind {
-        READ..=PUT => true,
+        READ..=HAS => true,
         _ => false,
     }
 }

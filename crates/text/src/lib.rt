@@ -12,6 +12,7 @@ pub use codes::ADD;
 pub use codes::CODES;
 pub use codes::CONSTANT;
 pub use codes::GET;
+pub use codes::HAS;
 pub use codes::JUMP;
 pub use codes::LESS;
 pub use codes::PUT;

@@ -135,6 +135,55 @@ unfolding auditOf readPrograms readTrace readReport readText readLines addLine l
     parts onto within addProgram addDo addRequest addResponse addOf addLog go effectAs upd bump
 reads-shown = refl
 
+-- ── a key never put, or put as 0 ──
+-- program 0 fills well a with volume b; program 1 asks whether well a was filled and reads its volume
+abbrev pub programsWells : List String
+programsWells = "program=0" ∷ "do=9,8,0,1" ∷ "do=0,1,0,0" ∷ "program=1" ∷ "do=10,2,8,0" ∷ "do=8,3,8,0" ∷ "do=0,2,0,0" ∷ []
+
+-- well 7 is filled with volume 0, well 12 never; both are asked for
+abbrev pub traceWells : (response7 response12 : String) → List String
+traceWells response7 response12 =
+    "request=1,0,7,0" ∷ "response=1,0,0" ∷ "request=2,1,7,0" ∷ "request=3,1,12,0" ∷ response7 ∷ response12 ∷ []
+
+abbrev pub reportWells : (asked7 asked12 : String) → List String
+reportWells asked7 asked12 =
+    "of=1,0,1" ∷ "of=2,1,2" ∷ "of=3,2,2" ∷ "log=8,1,1,9,7,0" ∷ asked7 ∷ asked12 ∷ "log=8,2,2,8,7,0" ∷ "log=8,3,2,8,12,0" ∷ []
+
+abbrev wells : (response7 response12 asked7 asked12 : String) → Audited → Case
+wells response7 response12 asked7 asked12 = case programsWells (traceWells response7 response12) (reportWells asked7 asked12)
+
+-- program 0 asks for a key, program 1 reads register 0; request 2, of either, arrives first, and the line of request 1 stands above its own
+abbrev asksLater : (prog2 line1 line2 : String) → Audited → Case
+asksLater prog2 line1 line2 =
+    case ("program=0" ∷ "do=10,2,8,0" ∷ "do=0,2,0,0" ∷ "program=1" ∷ "do=6,2,0,0" ∷ "do=0,2,0,0" ∷ [])
+    (prog2 ∷ "request=1,0,5,0" ∷ "response=2,0,0" ∷ "response=1,0,0" ∷ []) ("of=2,0,1" ∷ "of=1,1,1" ∷ line1 ∷ line2 ∷ [])
+
+abbrev keys : List Case
+keys =
+    -- told apart by code 10, alike to code 8
+    wells "response=2,0,1" "response=3,0,0" "log=8,2,1,10,7,1" "log=8,3,1,10,12,0" (accepted 3 5)
+    -- well 7 shown and answered as never filled, well 12 as filled; a value that is no 1 or 0
+    ∷ wells "response=2,0,0" "response=3,0,0" "log=8,2,1,10,7,0" "log=8,3,1,10,12,0" (refused 10 2)
+    ∷ wells "response=2,0,1" "response=3,0,1" "log=8,2,1,10,7,1" "log=8,3,1,10,12,1" (refused 10 3)
+    ∷ wells "response=2,0,2" "response=3,0,0" "log=8,2,1,10,7,2" "log=8,3,1,10,12,0" (refused 10 2)
+    -- the right line with a wrong reply; the line of a read; kind 11
+    ∷ wells "response=2,0,1" "response=3,0,1" "log=8,2,1,10,7,1" "log=8,3,1,10,12,0" (refused 11 3)
+    ∷ wells "response=2,0,1" "response=3,0,0" "log=8,2,1,10,7,1" "log=8,3,1,8,12,0" (refused 10 3)
+    ∷ wells "response=2,0,1" "response=3,0,0" "log=8,2,1,10,7,1" "log=8,3,1,11,12,0" (refused 5 6)
+    -- a line of kind 10 puts nothing into its store, writes no register, and is a fault of its own request alone
+    ∷ asksLater "request=2,0,5,0" "log=8,1,1,10,5,1" "log=8,2,1,10,5,0" (refused 10 2)
+    ∷ asksLater "request=2,1,0,0" "log=0,1,1,10,5,0" "log=0,2,1,6,0,0" (refused 10 2)
+    ∷ asksLater "request=2,1,0,0" "log=0,1,1,10,0,1" "log=0,2,1,6,0,0" (refused 10 2)
+    -- a register for the store; code 11
+    ∷ case ("program=0" ∷ "do=10,2,7,0" ∷ "do=0,2,0,0" ∷ []) [] [] (refused 2 2)
+    ∷ case ("program=0" ∷ "do=11,2,8,0" ∷ "do=0,2,0,0" ∷ []) [] [] (refused 2 2)
+    ∷ []
+
+keys-held : map audits keys ≡ map (λ c. c .finds) keys
+unfolding auditOf readPrograms readTrace readReport readText readLines addLine lineOf fieldsOf fieldOf prefix numberOf digitsOf pushOf
+    parts onto within addProgram addDo addRequest addResponse addOf addLog go effectAs upd bump
+keys-held = refl
+
 -- ── requests left open ──
 -- A with request 1 left open: nothing of it comes before request 2 then
 abbrev openA : Case

@@ -11,7 +11,7 @@ returns c = λ contents h g. store-put contents _ (eq-eqb _ _ (c .before .before
 returns-2 : tie.Need-returns-2
 returns-2 c = λ contents h g.
     let at-if1 = c .before .before .before .before in
-    store-look contents _ _ _ (ne-eqb _ _ (at-if1 .if1 .left)) (c .before .look .ensures _ contents h) (c .value-of .ensures) h
+    store-look contents _ _ _ (ne-eqb _ _ (at-if1 .if1 .left)) (c .before .look .ensures _ contents h) (c .finds .ensures) h
 
 pub on-store-spec : {M : Type 1} → statement M
 on-store-spec =
