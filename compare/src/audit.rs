@@ -313,7 +313,7 @@ fn replay_all(batch: &Batch, claims: &Claims) -> Result<(), Fault> {
     Ok(())
 }
 
-/// For each log line what its cell holds by the lines above it: the value that a read there takes.
+/// For each log line the answer that its operation takes, by what the lines above it wrote.
 fn answers(log: &[LogLine]) -> Vec<u64> {
     let mut objects = Objects::default();
     log.iter()

@@ -6,7 +6,7 @@ use crate::host::{record, Recorded};
 use crate::order::{order, order_quickly, printed, verdict_lines};
 use crate::plain::{allows, search_orders, Found};
 use crate::rule;
-use crate::texts::{BatchTexts, TEXT_LIMIT};
+use crate::texts::{read_report, BatchTexts, TEXT_LIMIT};
 
 pub type Check = fn(&Case) -> Option<String>;
 
@@ -168,8 +168,33 @@ pub fn leaves_open(trace: &[u8]) -> bool {
     lines_with(trace, b"request=") > lines_with(trace, b"response=")
 }
 
+/// Whether a report that can be read has a line of kind 10 with this answer.
+pub fn shows_held(report: &[u8], answer: u64) -> bool {
+    let Ok(report) = read_report(report) else {
+        return false;
+    };
+    let mut lines = report.log.iter();
+    lines.any(|line| (line.kind, line.value) == (10, answer))
+}
+
 /// How many lines of a text begin with this word.
 pub fn lines_with(text: &[u8], word: &[u8]) -> usize {
     let lines = text.split(|&byte| byte == b'\n');
     lines.filter(|line| line.starts_with(word)).count()
+}
+
+#[cfg(test)]
+mod tests {
+    use super::*;
+    use crate::cases;
+
+    #[test]
+    fn random_batches_with_code_10_pass_every_check() {
+        let asks = |case: &Case| (0..=1).any(|answer| shows_held(&case.batch.report, answer));
+        for case in cases::fixed(1_000).filter(asks) {
+            for check in ALONE {
+                assert_eq!(check(&case), None, "{}", case.name);
+            }
+        }
+    }
 }

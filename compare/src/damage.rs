@@ -4,7 +4,7 @@
 //! keeps a whole batch readable (neighbours in a log exchanged, requests put into one group), so that every
 //! verdict is reached.
 
-use crate::machine::{Objects, Operation};
+use crate::machine::{is_read, Objects, Operation};
 use crate::random::{interleave, Random};
 use crate::texts::{
     read_report, read_schedule, read_trace, write_report, write_schedule, write_trace, BatchTexts,
@@ -12,7 +12,7 @@ use crate::texts::{
 };
 
 /// Numbers at the ends of the ranges, and some that no text can hold.
-const EDGES: [&str; 29] = [
+const EDGES: [&str; 30] = [
     "0",
     "1",
     "2",
@@ -22,6 +22,7 @@ const EDGES: [&str; 29] = [
     "8",
     "9",
     "10",
+    "11",
     "15",
     "16",
     "17",
@@ -43,6 +44,9 @@ const EDGES: [&str; 29] = [
     "340282366920938463463374607431768211456",
     "",
 ];
+
+/// Every kind, and the first number behind them, which no line can hold, half as often.
+const KINDS: [u64; 11] = [6, 6, 7, 7, 8, 8, 9, 9, 10, 10, 11];
 
 /// Bytes that mean something in a line, or nearly do.
 const BYTES: [u8; 20] = [
@@ -145,7 +149,7 @@ fn damage_report(random: &mut Random, text: &mut Vec<u8>) {
     let Ok(mut report) = read_report(text) else {
         return damage_text(random, text);
     };
-    match random.below(19) {
+    match random.below(20) {
         0..=3 => exchange_in_log(random, &mut report),
         4 => report = interleave(random, &report),
         5..=6 => join_groups(random, &mut report),
@@ -153,6 +157,7 @@ fn damage_report(random: &mut Random, text: &mut Vec<u8>) {
         8 => renumber(random, &mut report),
         9..=13 => misstate_write(random, &mut report),
         14 => hide_reads(&mut report),
+        15 => exchange_lookup(random, &mut report),
         _ => change_log_line(random, &mut report),
     }
     if random.percent(50) {
@@ -421,34 +426,46 @@ fn show_reads(report: &mut Report) {
     let mut objects = Objects::default();
     for line in &mut report.log {
         let answer = objects.perform(Operation::claimed_by(line));
-        if is_read(line) {
+        if is_read(line.kind) {
             line.value = answer;
         }
     }
 }
 
-fn is_read(line: &LogLine) -> bool {
-    Operation::claimed_by(line).is_read()
+fn reads(report: &mut Report) -> impl Iterator<Item = &mut LogLine> {
+    report.log.iter_mut().filter(|line| is_read(line.kind))
 }
 
 /// Shows 0 for every read, as reports did before reads were shown.
 fn hide_reads(report: &mut Report) {
-    let reads = report.log.iter_mut().filter(|line| is_read(line));
-    reads.for_each(|line| line.value = 0);
+    reads(report).for_each(|line| line.value = 0);
 }
 
-/// Shows another value for a read. Half of the time its request answers with that value.
+/// Claims a lookup of a store with the kind of the other code that looks a key up.
+fn exchange_lookup(random: &mut Random, report: &mut Report) {
+    let mut lookups: Vec<&mut LogLine> = reads(report).filter(|line| line.kind != 6).collect();
+    if !lookups.is_empty() {
+        let line = lookups.swap_remove(random.below(lookups.len()));
+        line.kind = 18 - line.kind;
+    }
+}
+
+/// Shows another value for a read, half of the time 0 for 1 and 1 for 0, which kind 10 may show. Half of the time
+/// its request answers with that value.
 fn misstate_read(random: &mut Random, batch: &mut BatchTexts) {
     let (Ok(mut trace), Ok(mut report)) = (read_trace(&batch.trace), read_report(&batch.report))
     else {
         return damage_text(random, &mut batch.report);
     };
-    let mut reads: Vec<&mut LogLine> = report.log.iter_mut().filter(|line| is_read(line)).collect();
+    let mut reads: Vec<&mut LogLine> = reads(&mut report).collect();
     if reads.is_empty() {
         return;
     }
     let line = reads.swap_remove(random.below(reads.len()));
-    line.value = line.value.wrapping_add(random.between(1, 3) as u64);
+    line.value = match random.below(4) {
+        0..=1 => line.value ^ 1,
+        more => line.value.wrapping_add(more as u64),
+    };
     let (rid, wrong) = (line.rid, line.value);
     if random.percent(50) {
         let responses = trace.iter_mut().filter_map(response);
@@ -485,7 +502,7 @@ fn misstate_write(random: &mut Random, report: &mut Report) {
     if line.kind == 7 && random.percent(50) {
         line.key = random.between(1, 3) as u64;
     } else {
-        line.kind = *random.pick(&[7, 9, 16 - line.kind, 16 - line.kind]);
+        line.kind = *random.pick(&[7, 9, 10, 16 - line.kind, 16 - line.kind]);
     }
 }
 
@@ -497,7 +514,8 @@ fn read_by_earlier(report: &Report, place: usize) -> bool {
     let next = below.find(|line| (line.object, line.key) == (write.object, write.key));
     let arrival = |line: &LogLine| report.of.iter().position(|of| of.rid == line.rid);
     next.is_some_and(|read| {
-        matches!((write.kind, read.kind), (7, 6) | (9, 8)) && arrival(read) < arrival(write)
+        let fed = Operation::claimed_by(write).is_write() && is_read(read.kind);
+        fed && arrival(read) < arrival(write)
     })
 }
 
@@ -511,7 +529,7 @@ fn change_log_line(random: &mut Random, report: &mut Report) {
     match random.below(7) {
         0 => line.value = small,
         1..=2 => line.key = small,
-        3..=4 => line.kind = 6 + small,
+        3..=4 => line.kind = *random.pick(&KINDS),
         5 => line.object = (line.object + 8) % 16,
         _ => line.object = small,
     }
@@ -561,6 +579,26 @@ mod tests {
             assert!(seen[verdict] > 0, "{verdict}: {seen:?}");
         }
         assert_eq!(seen[11], 0);
+    }
+
+    #[test]
+    fn kind_10_comes_to_registers_and_kind_11_to_reports() {
+        let reports_with = |fits: fn(&[u64; 6]) -> bool| {
+            let reports = damaged().map(|batch| batch.report);
+            reports
+                .filter(|report| log_lines(report).iter().any(fits))
+                .count()
+        };
+        assert!(reports_with(|[object, _, _, kind, ..]| *object < 8 && *kind == 10) > 10);
+        assert!(reports_with(|[_, _, _, kind, ..]| *kind == 11) > 10);
+    }
+
+    /// The numbers of the log lines, whatever their ranges are.
+    fn log_lines(report: &[u8]) -> Vec<[u64; 6]> {
+        let text = String::from_utf8_lossy(report);
+        let log = text.lines().filter_map(|line| line.strip_prefix("log="));
+        let numbers = log.map(|list| list.split(',').flat_map(str::parse).collect());
+        numbers.flat_map(|list: Vec<u64>| list.try_into()).collect()
     }
 
     #[test]

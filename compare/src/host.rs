@@ -213,7 +213,12 @@ mod tests {
     fn left_open(turns: usize) -> [String; 2] {
         let turns = "turn=1\n".repeat(turns);
         let schedule = format!("arrive=1,0,0,0\n{turns}arrive=2,1,0,0\n");
-        let result = record(worked::PROGRAMS.as_bytes(), schedule.as_bytes(), ROOM, ROOM);
+        written(worked::PROGRAMS, &schedule)
+    }
+
+    /// The trace and the report of a schedule that is followed.
+    fn written(programs: &str, schedule: &str) -> [String; 2] {
+        let result = record(programs.as_bytes(), schedule.as_bytes(), ROOM, ROOM);
         assert_eq!((result.verdict, result.line), (0, 0));
         [result.trace, result.report].map(|text| String::from_utf8(text).expect("digits"))
     }
@@ -227,6 +232,35 @@ mod tests {
             (2, "of=1,0,2\nof=2,1,0\nlog=0,1,1,7,0,1\nlog=1,1,2,6,0,0\n"),
         ] {
             assert_eq!(left_open(turns), [trace, report], "{turns} turns");
+        }
+    }
+
+    /// A well put as 0 is filled, and the second request fills it only where it asks before that put.
+    #[test]
+    fn a_key_is_held_behind_its_put_and_not_before() {
+        let requests = "request=1,0,3,0\nrequest=2,0,3,7\n";
+        for (turns, responses, report) in [
+            (
+                "11221",
+                "response=2,0,1\nresponse=1,0,0\n",
+                "of=1,0,2\nof=2,1,1\nlog=8,1,1,10,3,0\nlog=8,1,2,9,3,0\nlog=8,2,1,10,3,1\n",
+            ),
+            (
+                "121212",
+                "response=1,0,0\nresponse=2,0,0\n",
+                "of=1,0,2\nof=2,1,2\n\
+                 log=8,1,1,10,3,0\nlog=8,2,1,10,3,0\nlog=8,1,2,9,3,0\nlog=8,2,2,9,3,7\n",
+            ),
+            (
+                "12",
+                "",
+                "of=1,0,1\nof=2,1,1\nlog=8,1,1,10,3,0\nlog=8,2,1,10,3,0\n",
+            ),
+        ] {
+            let schedule = worked::in_turns(worked::FILLING, turns);
+            let trace = format!("{requests}{responses}");
+            let texts = [trace.as_str(), report];
+            assert_eq!(written(worked::FILL, &schedule), texts, "turns {turns}");
         }
     }
 

@@ -45,10 +45,16 @@ fn fields_exist(instruction: &Instruction, length: u64) -> bool {
         5 => local(a) && b < length && c == 0,
         6 => local(a) && register(b) && c == 0,
         7 => register(a) && local(b) && c == 0,
-        8 => local(a) && store(b) && local(c),
+        8 | 10 => local(a) && store(b) && local(c),
         9 => store(a) && local(b) && local(c),
         _ => false,
     }
+}
+
+/// Whether an operation of this kind, which is its code, takes an answer: the value of a register or at a key, or
+/// whether the key is held.
+pub fn is_read(kind: u64) -> bool {
+    matches!(kind, 6 | 8 | 10)
 }
 
 /// An operation, without the request that it belongs to. The value is that of a write; of a read it says nothing.
@@ -70,7 +76,7 @@ impl Operation {
         }
     }
 
-    /// The log line of an operation that got this answer: a read shows the value read.
+    /// The log line of an operation that got this answer: a read shows it.
     pub fn log_line(self, rid: u64, num: u64, answer: u64) -> LogLine {
         LogLine {
             object: self.object,
@@ -78,12 +84,12 @@ impl Operation {
             num,
             kind: self.kind,
             key: self.key,
-            value: if self.is_read() { answer } else { self.value },
+            value: if is_read(self.kind) {
+                answer
+            } else {
+                self.value
+            },
         }
-    }
-
-    pub fn is_read(self) -> bool {
-        matches!(self.kind, 6 | 8)
     }
 
     /// A line of kind 7 on a register or 9 on a store. A report may claim others, 9 on a register say:
@@ -97,23 +103,37 @@ impl Operation {
         let key = if self.object < REGISTERS { 0 } else { self.key };
         (self.object, key)
     }
+
+    /// The answer, by what the cell holds: of kind 10 whether it was ever written, of the others its value, which
+    /// is 0 where it never was.
+    fn answer(self, held: Option<u64>) -> u64 {
+        match self.kind {
+            10 => u64::from(held.is_some()),
+            _ => held.unwrap_or(0),
+        }
+    }
 }
 
-/// The contents of registers and stores; what was never written is 0.
+/// The contents of registers and stores: the cells that were written. A 0 that was written is there.
 #[derive(Clone, Debug, Default)]
 pub struct Objects {
     cells: Map<(u64, u64), u64>,
 }
 
 impl Objects {
-    /// Carries an operation out; the answer is what its cell held before.
+    /// Carries an operation out; the answer is by what its cell held before.
     pub fn perform(&mut self, operation: Operation) -> u64 {
         let cell = operation.cell();
-        let before = self.cells.get(&cell).copied().unwrap_or(0);
+        let before = self.lookup(cell);
         if operation.is_write() {
             self.cells.insert(cell, operation.value);
         }
-        before
+        operation.answer(before)
+    }
+
+    /// What a cell holds, or that it was never written.
+    fn lookup(&self, cell: (u64, u64)) -> Option<u64> {
+        self.cells.get(&cell).copied()
     }
 }
 
@@ -211,7 +231,7 @@ impl<'a> Running<'a> {
             5 => {}
             6 => return Some(self.read(a, b, 6, 0)),
             7 => return Some(self.write(a, 7, 0, self.local(b))),
-            8 => return Some(self.read(a, b, 8, self.local(c))),
+            8 | 10 => return Some(self.read(a, b, code, self.local(c))),
             9 => return Some(self.write(a, 9, self.local(b), self.local(c))),
             _ => unreachable!("the program rules leave no other code"),
         }
@@ -288,12 +308,12 @@ mod tests {
         assert_eq!(rule_line("program=0\ndo=0,0,0,0\ndo=1,0,0,0\n"), Some(3));
         assert_eq!(rule_line("program=0\ndo=5,0,2,0\ndo=0,0,0,0\n"), Some(2));
         assert_eq!(rule_line("program=0\ndo=5,0,1,0\ndo=0,0,0,0\n"), None);
-        assert_eq!(rule_line("program=0\ndo=10,0,0,0\ndo=0,0,0,0\n"), Some(2));
+        assert_eq!(rule_line("program=0\ndo=11,0,8,0\ndo=0,0,0,0\n"), Some(2));
     }
 
     #[test]
     fn each_field_of_each_code_has_its_range() {
-        let highest: [(u64, [u64; 3]); 10] = [
+        let highest: [(u64, [u64; 3]); 11] = [
             (0, [7, 0, 0]),
             (1, [7, u64::MAX, 0]),
             (2, [7, 7, 7]),
@@ -304,6 +324,7 @@ mod tests {
             (7, [7, 7, 0]),
             (8, [7, 15, 7]),
             (9, [15, 7, 7]),
+            (10, [7, 15, 7]),
         ];
         let line = |code, [a, b, c]: [u64; 3]| {
             rule_line(&format!("program=0\ndo={code},{a},{b},{c}\ndo=0,0,0,0\n"))
@@ -319,10 +340,14 @@ mod tests {
                 assert_eq!(line(code, over), Some(2), "code {code}, field {field}");
             }
         }
-        assert_eq!(line(8, [0, 7, 0]), Some(2));
-        assert_eq!(line(9, [7, 0, 0]), Some(2));
-        assert_eq!(line(8, [0, 8, 0]), None);
-        assert_eq!(line(9, [8, 0, 0]), None);
+        for (code, [below, lowest]) in [
+            (8, [[0, 7, 0], [0, 8, 0]]),
+            (9, [[7, 0, 0], [8, 0, 0]]),
+            (10, [[0, 7, 0], [0, 8, 0]]),
+        ] {
+            assert_eq!(line(code, below), Some(2), "code {code}");
+            assert_eq!(line(code, lowest), None, "code {code}");
+        }
     }
 
     #[test]
@@ -367,5 +392,40 @@ mod tests {
         assert_eq!(run(stores, 5, 9).1, 9);
         let register = "program=0\ndo=6,2,0,0\ndo=7,0,0,0\ndo=6,3,0,0\ndo=3,4,3,2\ndo=0,4,0,0\n";
         assert_eq!(run(register, 5, 0).1, 5);
+    }
+
+    /// What store 8 says of key 3, and then whether store 9 holds it, after these puts into store 8.
+    fn told_after(puts: &[(u64, u64)]) -> [u64; 3] {
+        let mut objects = Objects::default();
+        let mut perform = |object, kind, (key, value)| {
+            objects.perform(Operation {
+                object,
+                kind,
+                key,
+                value,
+            })
+        };
+        for &put in puts {
+            perform(8, 9, put);
+        }
+        [(8, 8), (8, 10), (9, 10)].map(|(object, kind)| perform(object, kind, (3, 0)))
+    }
+
+    #[test]
+    fn a_key_is_held_once_it_was_put_with_0_too() {
+        assert_eq!(told_after(&[]), [0, 0, 0]);
+        assert_eq!(told_after(&[(3, 0)]), [0, 1, 0]);
+        assert_eq!(told_after(&[(3, 5)]), [5, 1, 0]);
+        assert_eq!(told_after(&[(3, 5), (3, 0)]), [0, 1, 0]);
+        assert_eq!(told_after(&[(4, 5)]), [0, 0, 0]);
+    }
+
+    #[test]
+    fn code_10_takes_1_or_0_and_no_kind_10_makes_a_key_held() {
+        // Whether key a is held before the put, and after it, as the digits of a number to the base 2.
+        let asks = "program=0\ndo=10,2,8,0\ndo=10,2,8,0\ndo=9,8,0,1\ndo=10,3,8,0\n\
+                    do=2,2,2,2\ndo=2,2,2,3\ndo=0,2,0,0\n";
+        assert_eq!(run(asks, 3, 0), (REPLIED, 1, 7));
+        assert_eq!(run(asks, 3, u64::MAX), (REPLIED, 1, 7));
     }
 }

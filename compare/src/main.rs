@@ -154,17 +154,38 @@ struct Tally {
     orders: usize,
     no_orders: usize,
     given_up: usize,
-    open: Open,
+    open: Share,
+    /// By the answer that a line of kind 10 shows.
+    held: [Share; 2],
 }
 
-/// Batches that come to row 7 and schedules that are followed, with open requests.
+/// Batches that come to row 7 and schedules that are followed, of one sort.
 #[derive(Default)]
-struct Open {
+struct Share {
     batches: usize,
     accepted: usize,
     /// Batches that the search of all orders did not give up.
     searched: usize,
     schedules: usize,
+}
+
+impl Share {
+    /// Counts a case by whether its batch, and what the host writes, are of this sort.
+    fn count(&mut self, [batch, written]: [bool; 2], accepted: bool, found: Option<Found>) {
+        self.schedules += usize::from(written);
+        if found.is_some() && batch {
+            self.batches += 1;
+            self.accepted += usize::from(accepted);
+            self.searched += usize::from(found != Some(Found::GaveUp));
+        }
+    }
+
+    fn print(&self, sort: &str) {
+        println!(
+            "with {sort}: {} batches, {} of them accepted, {} searched; {} schedules",
+            self.batches, self.accepted, self.searched, self.schedules
+        );
+    }
 }
 
 impl Tally {
@@ -181,11 +202,13 @@ impl Tally {
             Some(Found::GaveUp) => self.given_up += 1,
             None => {}
         }
-        self.open.schedules += usize::from(checks::leaves_open(&recorded.trace));
-        if found.is_some() && checks::leaves_open(&case.batch.trace) {
-            self.open.batches += 1;
-            self.open.accepted += usize::from(audited.verdict == 0);
-            self.open.searched += usize::from(found != Some(Found::GaveUp));
+        let accepted = audited.verdict == 0;
+        let open = [&case.batch.trace, &recorded.trace].map(|trace| checks::leaves_open(trace));
+        self.open.count(open, accepted, found);
+        for (answer, share) in (0..).zip(&mut self.held) {
+            let reports = [&case.batch.report, &recorded.report];
+            let shown = reports.map(|report| checks::shows_held(report, answer));
+            share.count(shown, accepted, found);
         }
     }
 
@@ -200,10 +223,9 @@ impl Tally {
             "search of all orders: {} with an order, {} with none, {} given up",
             self.orders, self.no_orders, self.given_up
         );
-        println!(
-            "with open requests: {} batches, {} of them accepted, {} searched; {} schedules",
-            self.open.batches, self.open.accepted, self.open.searched, self.open.schedules
-        );
+        self.open.print("open requests");
+        self.held[0].print("a key found not held");
+        self.held[1].print("a key found held");
     }
 }
 
@@ -287,18 +309,20 @@ mod tests {
     use super::*;
 
     #[test]
-    fn open_requests_are_in_a_tenth_of_the_random_cases() {
+    fn open_requests_and_each_answer_of_code_10_are_in_a_tenth_of_the_random_cases() {
         let mut tally = Tally::default();
         let cases = 1_000;
         cases::fixed(cases).for_each(|case| tally.count(&case));
-        let Tally { open, .. } = &tally;
-        for (share, of) in [
-            (open.batches, cases),
-            (open.accepted, tally.verdicts[0]),
-            (open.searched, tally.orders + tally.no_orders),
-            (open.schedules, cases),
-        ] {
-            assert!(10 * share >= of, "{share} of {of}");
+        let [not_held, held] = &tally.held;
+        for sort in [&tally.open, not_held, held] {
+            for (share, of) in [
+                (sort.batches, cases),
+                (sort.accepted, tally.verdicts[0]),
+                (sort.searched, tally.orders + tally.no_orders),
+                (sort.schedules, tally.schedules[0]),
+            ] {
+                assert!(10 * share >= of, "{share} of {of}");
+            }
         }
     }
 }

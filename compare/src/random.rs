@@ -4,7 +4,7 @@
 //! made by running the host, so they are honest; `damage` makes the others.
 
 use crate::host::Host;
-use crate::machine::broken_rule;
+use crate::machine::{broken_rule, is_read};
 use crate::texts::{
     read_programs, read_schedule, write_programs, write_report, write_schedule, write_trace,
     BatchTexts, Entry, Instruction, Program, Report, Request,
@@ -180,11 +180,7 @@ fn program(random: &mut Random, number: u64, size: Size) -> Program {
 
 /// Most often what was read last, so that the response depends on other requests.
 fn reply_local(random: &mut Random, instructions: &[Instruction]) -> u64 {
-    let mut reads = instructions
-        .iter()
-        .rev()
-        .filter(|i| matches!(i.code, 6 | 8));
-    match reads.next() {
+    match instructions.iter().rfind(|i| is_read(i.code)) {
         Some(read) if random.percent(70) => read.a,
         _ => local(random),
     }
@@ -205,6 +201,12 @@ fn make(code: u64, a: u64, b: u64, c: u64) -> Instruction {
 fn local(random: &mut Random) -> u64 {
     let highest = *random.pick(&[1, 2, 3, 7]);
     random.between(0, highest) as u64
+}
+
+/// The local of a key: most often one that is seldom written to, so that requests meet at key 0.
+fn key(random: &mut Random) -> u64 {
+    let any = random.between(0, 3) as u64;
+    *random.pick(&[7, 7, 7, any])
 }
 
 /// Any instruction of a program of this length.
@@ -230,15 +232,16 @@ fn straight(random: &mut Random, objects: Objects) -> Instruction {
 
 /// An operation that reads into no local below this one.
 fn operation(random: &mut Random, objects: Objects, lowest: u64) -> Instruction {
-    let [x, key] = [local(random), local(random)];
+    let [x, key] = [local(random), key(random)];
     let register = *random.pick(&objects.registers);
     let store = *random.pick(&objects.stores);
-    // An input, most often: other locals may still be 0, and a 0 written where 0 was is not seen.
+    // An input, most often: other locals may still be 0, and a 0 written where 0 was is seen by code 10 alone.
     let written = *random.pick(&[0, 1, x]);
-    match random.below(4) {
-        0 => make(6, x.max(lowest), register, 0),
-        1 => make(7, register, written, 0),
-        2 => make(8, x.max(lowest), store, key),
+    match random.below(10) {
+        0..=1 => make(6, x.max(lowest), register, 0),
+        2..=3 => make(7, register, written, 0),
+        4 => make(8, x.max(lowest), store, key),
+        5..=6 => make(10, x.max(lowest), store, key),
         _ => make(9, store, key, written),
     }
 }
@@ -394,6 +397,7 @@ mod tests {
     use super::*;
     use crate::audit::audit;
     use crate::host::record;
+    use crate::texts::read_report;
 
     #[test]
     fn a_seed_gives_the_same_run() {
@@ -413,6 +417,44 @@ mod tests {
             let recorded = record(&batch.programs, &schedule, 65_535, 65_535);
             assert_eq!(recorded.trace, batch.trace, "seed {seed}");
             assert_eq!(recorded.report, batch.report, "seed {seed}");
+        }
+    }
+
+    /// What the nearest put above a line left at its key, by the lines alone.
+    fn put_above(report: &Report, place: usize) -> Option<u64> {
+        let line = &report.log[place];
+        let mut above = report.log[..place].iter();
+        let put = above.rfind(|put| (put.object, put.kind, put.key) == (line.object, 9, line.key));
+        put.map(|put| put.value)
+    }
+
+    /// For each line of kind 10 of a run what was put at its key; the line shows whether anything was.
+    fn puts_asked_for(seed: u64) -> Vec<Option<u64>> {
+        let mut random = Random::new(seed);
+        let size = size(&mut random);
+        let report = read_report(&run(&mut random, size).batch.report);
+        let report = report.expect("the host wrote it");
+        let asked = (0..report.log.len()).filter(|&place| report.log[place].kind == 10);
+        let put = |place: usize| {
+            let put = put_above(&report, place);
+            let shown = report.log[place].value;
+            assert_eq!(shown, u64::from(put.is_some()), "seed {seed}");
+            put
+        };
+        asked.map(put).collect()
+    }
+
+    #[test]
+    fn a_tenth_of_the_runs_ask_for_keys_never_put_put_as_0_and_put_otherwise() {
+        let sorts: [fn(&Option<u64>) -> bool; 3] = [
+            |put| put.is_none(),
+            |put| *put == Some(0),
+            |put| put.is_some_and(|value| value != 0),
+        ];
+        let puts: Vec<_> = (0..500).map(puts_asked_for).collect();
+        for (place, sort) in sorts.into_iter().enumerate() {
+            let share = puts.iter().filter(|puts| puts.iter().any(sort)).count();
+            assert!(10 * share >= puts.len(), "sort {place}: {share}");
         }
     }
 }

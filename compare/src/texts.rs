@@ -19,7 +19,7 @@ const STATUS: RangeInclusive<u64> = 0..=1;
 const GROUP: RangeInclusive<u64> = 0..=63;
 const COUNT: RangeInclusive<u64> = 0..=256;
 const OBJECT: RangeInclusive<u64> = 0..=15;
-const KIND: RangeInclusive<u64> = 6..=9;
+const KIND: RangeInclusive<u64> = 6..=10;
 
 /// The line at which a text is unreadable, counted from 1; 0 for an overlong text.
 #[derive(Clone, Copy, Debug, PartialEq, Eq)]
@@ -380,7 +380,7 @@ mod tests {
     #[test]
     fn ranges_end_where_they_are_named() {
         let good: [&[u8]; 4] = [
-            b"log=15,65535,256,9,0,0\n",
+            b"log=15,65535,256,10,0,0\n",
             b"log=0,0,0,6,0,0\n",
             b"of=65535,63,256\n",
             b"of=0,0,0\n",
@@ -393,7 +393,7 @@ mod tests {
             b"log=0,65536,1,7,0,0\n",
             b"log=0,0,257,7,0,0\n",
             b"log=0,0,1,5,0,0\n",
-            b"log=0,0,1,10,0,0\n",
+            b"log=0,0,1,11,0,0\n",
             b"of=65536,0,0\n",
             b"of=0,64,0\n",
             b"of=0,0,257\n",

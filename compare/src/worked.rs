@@ -1,8 +1,9 @@
 //! The batches and schedules that the scope paper works out, an example of every row of its table, and the
 //! limits, each with the result that the paper gives; full hundreds of operations; orders to read, reads in the
-//! log, open requests and comparisons, worked out by hand.
+//! log, open requests, comparisons and held keys, worked out by hand.
 
 mod comparisons;
+mod held;
 mod hundreds;
 mod limits;
 mod open;
@@ -18,6 +19,8 @@ pub const PROGRAMS: &str = "program=0\ndo=1,2,1,0\ndo=7,0,2,0\ndo=6,0,1,0\ndo=0,
 pub const LOOP: &str = "program=0\ndo=1,2,1,0\ndo=5,2,0,0\ndo=0,0,0,0\n";
 /// One constant, then write and jump in turn up to the cut: write k is instruction 2k, write 128 the 256th.
 const WRITES: &str = "program=0\ndo=1,2,1,0\ndo=7,0,2,0\ndo=5,2,1,0\ndo=0,0,0,0\n";
+/// Fills the well of key a with b where nobody filled it, and replies whether somebody had.
+pub const FILL: &str = "program=0\ndo=10,2,8,0\ndo=5,2,3,0\ndo=9,8,0,1\ndo=0,2,0,0\n";
 pub const SCHEDULE_OF_C: &[u8] =
     b"arrive=1,0,0,0\narrive=2,1,0,0\nturn=1\nturn=2\nturn=1\nturn=2\nturn=1\nturn=2\n";
 
@@ -27,6 +30,8 @@ const REPORT_OF_C: &str = "of=1,0,2\nof=2,1,2\n\
 const ORDER_OF_C: &str = "event=1\nop=1,1\nevent=2\nop=2,1\nop=2,2\nop=1,2\nevent=3\nevent=4\n";
 
 pub use schedules::schedules;
+#[cfg(test)]
+pub use schedules::{in_turns, FILLING};
 
 pub struct Case {
     pub name: &'static str,
@@ -69,6 +74,7 @@ pub fn batches() -> Vec<Case> {
     cases.extend(reads::reads());
     cases.extend(open::open());
     cases.extend(comparisons::comparisons());
+    cases.extend(held::held());
     cases
 }
 

@@ -184,7 +184,7 @@ fn ranges() -> Vec<Case> {
         refused("num 257", report("of=1,0,1\nlog=0,1,257,7,0,0\n"), 5, 2),
         refused("kind 5", report("of=1,0,1\nlog=0,1,1,5,0,0\n"), 5, 2),
         refused("kind 6", report("of=1,0,1\nlog=0,1,1,6,0,0\n"), 10, 1),
-        refused("kind 10", report("of=1,0,1\nlog=0,1,1,10,0,0\n"), 5, 2),
+        refused("kind 10", report("of=1,0,1\nlog=0,1,1,10,0,0\n"), 10, 1),
         refused(
             "key 2^64 - 1",
             report("of=1,0,1\nlog=8,1,1,9,18446744073709551615,0\n"),

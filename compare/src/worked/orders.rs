@@ -93,7 +93,7 @@ fn side_by_side() -> BatchTexts {
     }
 }
 
-/// A program with four operations of each code, on objects that its number decides.
+/// A program with four operations of each of the codes 6 to 9, on objects that its number decides.
 fn sixteen_operations(number: usize) -> String {
     let round = |round: usize| {
         let object = |step: usize| (number + step * round) % 8;

@@ -1,6 +1,6 @@
 //! Schedules for the host, each with the verdict and line that the paper gives.
 
-use super::{LOOP, PROGRAMS, SCHEDULE_OF_C, WRITES};
+use super::{FILL, LOOP, PROGRAMS, SCHEDULE_OF_C, WRITES};
 use crate::texts::TEXT_LIMIT;
 
 pub struct Schedule {
@@ -34,6 +34,7 @@ pub fn schedules() -> Vec<Schedule> {
     cases.extend(turns());
     cases.extend(limits());
     cases.extend(open());
+    cases.extend(held());
     cases
 }
 
@@ -189,10 +190,7 @@ fn limits() -> Vec<Schedule> {
 /// Requests that get too few turns for an answer, or none.
 fn open() -> Vec<Schedule> {
     let arrivals = format!("{ARRIVE}arrive=2,1,0,0\n");
-    let turns = |order: &str| {
-        let turns = order.chars().map(|rid| format!("turn={rid}\n"));
-        format!("{arrivals}{}", turns.collect::<String>())
-    };
+    let turns = |order| in_turns(&arrivals, order);
     vec![
         case("an arrival alone", PROGRAMS, ARRIVE, 0, 0),
         case("arrivals alone", PROGRAMS, arrivals.clone(), 0, 0),
@@ -207,5 +205,25 @@ fn open() -> Vec<Schedule> {
             14,
             3,
         ),
+    ]
+}
+
+/// These arrivals, and then the turns of these rids, of one digit each.
+pub fn in_turns(arrivals: &str, rids: &str) -> String {
+    let turns = rids.chars().map(|rid| format!("turn={rid}\n"));
+    format!("{arrivals}{}", turns.collect::<String>())
+}
+
+/// Two requests that fill one well where nobody filled it, the first with 0.
+pub const FILLING: &str = "arrive=1,0,3,0\narrive=2,0,3,7\n";
+
+fn held() -> Vec<Schedule> {
+    let turns = |order| in_turns(FILLING, order);
+    let code_11 = "program=0\ndo=11,0,8,0\ndo=0,0,0,0\n";
+    vec![
+        case("a well filled once", FILL, turns("11221"), 0, 0),
+        case("both ask, then both fill", FILL, turns("121212"), 0, 0),
+        case("asking and left open", FILL, turns("12"), 0, 0),
+        case("host code 11", code_11, "turn=1,\n", 2, 2),
     ]
 }
