@@ -90,7 +90,7 @@ const REPORT: &[Kind] = &[
             field("object", 0, 15),
             RID,
             field("num", 0, 256),
-            field("kind", 6, 9),
+            field("kind", 6, 10),
             any("key"),
             any("value"),
         ],
@@ -434,8 +434,10 @@ mod tests {
         assert_eq!(of("of=1,0,257"), is("count", "0 to 256"));
         assert_eq!(of("log=16,1,1,7,0,0"), is("object", "0 to 15"));
         assert_eq!(of("log=0,1,257,7,0,0"), is("num", "0 to 256"));
-        assert_eq!(of("log=0,1,1,5,0,0"), is("kind", "6 to 9"));
-        assert_eq!(of("log=0,1,1,10,0,0"), is("kind", "6 to 9"));
+        assert_eq!(of("log=0,1,1,5,0,0"), is("kind", "6 to 10"));
+        assert_eq!(of("log=0,1,1,11,0,0"), is("kind", "6 to 10"));
+        // Readable on any object; whether it fits the object is no matter of the form.
+        assert_eq!(of("log=0,1,1,10,0,0"), "");
         assert_eq!(
             at(Text::Trace, b"response=1,2,0\n", 1),
             is("status", "0 to 1")

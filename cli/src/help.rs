@@ -76,11 +76,13 @@ refused:
                    reads register O and gets V
                    puts V at key K of store O
                    reads key K of store O and gets V
+                   asks whether store O holds key K and gets 1 (yes) or 0 (no)
 Standard error: one sentence, that of 'teaselshears audit', and behind it which requests were left open, each with how
 many operations it had carried out.
 
 The order is proved: the first word of each line. The words behind it and the line numbers are not: this program looks
-for the line of each item. Of an accepted batch, what a log line says was written or read is proved to be so.
+for the line of each item. Of an accepted batch, what a log line says was written or read, and whether a key was held,
+is proved to be so.
 
       --missing-as-empty  a missing file is an empty text; without it such a batch is not run. A folder with none
                           of the three files is never run

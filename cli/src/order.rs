@@ -110,7 +110,7 @@ struct Logged {
 }
 
 impl Logged {
-    /// The operation in words; the log line of a read shows the value that it got.
+    /// The operation in words; the log line of a read shows the value that it got, and that of a question the answer.
     fn in_words(&self) -> Option<String> {
         let Logged {
             object,
@@ -123,6 +123,10 @@ impl Logged {
             7 => format!("writes {value} to register {object}"),
             8 => format!("reads key {key} of store {object} and gets {value}"),
             9 => format!("puts {value} at key {key} of store {object}"),
+            10 => {
+                let answer = if *value == 0 { "no" } else { "yes" };
+                format!("asks whether store {object} holds key {key} and gets {value} ({answer})")
+            }
             _ => return None,
         })
     }
@@ -204,6 +208,8 @@ event=4       trace.txt, line 4: \"response=2,0,1\"
             "log=8,1,4,9,3,10\n",
             "log=8,1,5,8,3,10\n",
             "log=9,1,6,8,3,0\n",
+            "log=8,1,7,10,3,1\n",
+            "log=15,1,8,10,18446744073709551615,0\n",
         ];
         let wanted = [
             "writes 18446744073709551615 to register 7",
@@ -212,6 +218,8 @@ event=4       trace.txt, line 4: \"response=2,0,1\"
             "puts 10 at key 3 of store 8",
             "reads key 3 of store 8 and gets 10",
             "reads key 3 of store 9 and gets 0",
+            "asks whether store 8 holds key 3 and gets 1 (yes)",
+            "asks whether store 15 holds key 18446744073709551615 and gets 0 (no)",
         ];
         assert_eq!(words(&log), wanted);
     }

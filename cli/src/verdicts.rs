@@ -194,8 +194,9 @@ before its first request.",
         rule: "operation or count differs",
         text: Some(Text::Report),
         example: "case C with 2 as the first log value: line 1, the `of` line of the request that differs; a log line that does \
-not show the value read (examples/refused-10-read-not-shown) is a 10 too, and so is an open request whose program has fewer \
-operations than its `of` counts (examples/refused-10-open-request)",
+not show the value read (examples/refused-10-read-not-shown), or shows a key as held that was never put \
+(examples/refused-10-well-never-filled), is a 10 too, and so is an open request whose program has fewer operations than its \
+`of` counts (examples/refused-10-open-request)",
         next: HOST_AT_FAULT,
     },
     Verdict {

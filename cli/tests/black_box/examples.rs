@@ -21,13 +21,14 @@ tests![
     record_of_programs_that_are_refused,
     an_example_of_every_verdict,
     causes_of_unreadable_lines_differ,
+    codes_and_kinds_end_at_10,
     causes_of_verdict_4_differ,
     causes_of_verdict_7_differ,
     causes_of_verdict_14_differ,
 ];
 
 /// The place that the sentence of a refused example ends in; the first that its name begins with.
-const PLACES: [(&str, &str); 15] = [
+const PLACES: [(&str, &str); 16] = [
     ("refused-01", r#"programs.txt, line 1: "do=1,2""#),
     ("refused-02", r#"programs.txt, line 2: "do=0,8,0,0""#),
     ("refused-03", r#"trace.txt, line 1: "request=01,0,0,0""#),
@@ -37,6 +38,7 @@ const PLACES: [(&str, &str); 15] = [
     ("refused-07", r#"report.txt, line 2: "log=0,1,1,7,0,1""#),
     ("refused-08", r#"report.txt, line 1: "of=1,0,1""#),
     ("refused-10-open", r#"report.txt, line 1: "of=1,0,1""#),
+    ("refused-10-well", r#"report.txt, line 3: "of=3,2,2""#),
     ("refused-10", r#"report.txt, line 1: "of=1,0,2""#),
     ("refused-11", r#"report.txt, line 2: "of=2,1,2""#),
     ("refused-12-open", r#"report.txt, line 2: "of=2,0,0""#),
@@ -309,6 +311,37 @@ fn causes_of_unreadable_lines_differ(room: &Room) -> Done {
         let ended_by_cr = line("1").replace('\n', "\r\n");
         let cases = [ended_by_cr, line("01"), line(too_large), many];
         check_causes(&room.batch(file, "case-c"), file, verdict, &cases);
+    }
+    Ok(())
+}
+
+/// Code 11 breaks a rule and kind 11 is unreadable; kind 10 is readable on a register, where it fits no operation.
+fn codes_and_kinds_end_at_10(room: &Room) -> Done {
+    for (file, line, wrong, refused) in [
+        (
+            "programs.txt",
+            "do=10,2,8,0",
+            "do=11,2,8,0",
+            r#"2 (a program rule broken): programs.txt, line 5: "do=11,2,8,0""#,
+        ),
+        (
+            "report.txt",
+            "log=8,2,1,10,7,1",
+            "log=8,2,1,11,7,1",
+            r#"5 (report unreadable: the field kind is not in its range, 6 to 10): report.txt, line 5: "log=8,2,1,11,7,1""#,
+        ),
+        (
+            "report.txt",
+            "log=8,2,1,10,7,1",
+            "log=7,2,1,10,7,1",
+            r#"10 (operation or count differs): report.txt, line 2: "of=2,1,2""#,
+        ),
+    ] {
+        let path = room.batch(wrong, "wells").join(file);
+        let text = String::from_utf8(read(&path)).unwrap();
+        fs::write(path, text.replace(line, wrong)).unwrap();
+        let said = audit(room.path(wrong)).is(1).sentence();
+        assert_eq!(said, format!("refused, verdict {refused}"));
     }
     Ok(())
 }

@@ -13,6 +13,7 @@ tests![
     case_c_in_words,
     every_operation_in_words,
     a_read_gets_what_was_written_before_it_in_the_order,
+    a_well_filled_with_0_and_one_never_filled,
     a_refused_batch_has_no_order,
     the_longest_order,
     an_order_that_could_not_be_run,
@@ -111,11 +112,11 @@ fn operations(ended: &Ended) -> Vec<String> {
 }
 
 fn every_operation_in_words(room: &Room) -> Done {
-    // Register 7 becomes a and is read; store 15 gets b at key a; keys a and b are read, the second never put.
-    let programs = "program=0\ndo=6,2,7,0\ndo=7,7,0,0\ndo=6,2,7,0\ndo=9,15,0,1\ndo=8,3,15,0\ndo=8,4,15,1\ndo=0,3,0,0\n";
+    // Register 7 becomes a and is read; store 15 gets b at key a; keys a and b are read and asked for, the second never put.
+    let programs = "program=0\ndo=6,2,7,0\ndo=7,7,0,0\ndo=6,2,7,0\ndo=9,15,0,1\ndo=8,3,15,0\ndo=8,4,15,1\ndo=10,5,15,0\ndo=10,6,15,1\ndo=0,3,0,0\n";
     let schedule = format!(
         "arrive=65535,0,3,18446744073709551615\n{}",
-        "turn=65535\n".repeat(7)
+        "turn=65535\n".repeat(9)
     );
     let batch = recorded(room, "batch", programs, &schedule);
     let wanted = [
@@ -125,6 +126,8 @@ fn every_operation_in_words(room: &Room) -> Done {
         "op=65535,4: 65535 puts 18446744073709551615 at key 3 of store 15",
         "op=65535,5: 65535 reads key 3 of store 15 and gets 18446744073709551615",
         "op=65535,6: 65535 reads key 18446744073709551615 of store 15 and gets 0",
+        "op=65535,7: 65535 asks whether store 15 holds key 3 and gets 1 (yes)",
+        "op=65535,8: 65535 asks whether store 15 holds key 18446744073709551615 and gets 0 (no)",
     ];
     assert_eq!(operations(&order(batch)), wanted);
     Ok(())
@@ -138,6 +141,19 @@ fn a_read_gets_what_was_written_before_it_in_the_order(_: &Room) -> Done {
         "op=12,1: 12 reads key 7 of store 8 and gets 42",
     ];
     assert_eq!(operations(&order(example("stores"))), wanted);
+    Ok(())
+}
+
+/// Their volumes read alike; only the question tells them apart.
+fn a_well_filled_with_0_and_one_never_filled(_: &Room) -> Done {
+    let wanted = [
+        "op=1,1: 1 puts 0 at key 7 of store 8",
+        "op=2,1: 2 asks whether store 8 holds key 7 and gets 1 (yes)",
+        "op=3,1: 3 asks whether store 8 holds key 12 and gets 0 (no)",
+        "op=2,2: 2 reads key 7 of store 8 and gets 0",
+        "op=3,2: 3 reads key 12 of store 8 and gets 0",
+    ];
+    assert_eq!(operations(&order(example("wells"))), wanted);
     Ok(())
 }
 
@@ -231,6 +247,7 @@ fn help_says_what_is_proved(_: &Room) -> Done {
         "The words behind it and the line numbers are not",
         "reads register O and gets V",
         "puts V at key K of store O",
+        "asks whether store O holds key K and gets 1 (yes) or 0 (no)",
     ] {
         assert!(order.contains(part), "{part}: {order}");
     }
