@@ -35,7 +35,7 @@ use Rattle.machine.specs.Instance.{codeAt, machineOf}
 use Rattle.machine.specs.Objects.{Content, register, store, reads, isRegister, atStart}
 use Rattle.machine.specs.Processes.{limit, instrAt}
 use Rattle.cells.specs.declared.stores.Cell.the-variants.{Never}
-use Rattle.machine.proofs.Bounds.{Word, within, bounded}
+use Rattle.machine.proofs.Bounds.{Word, FitContent, finds-fit, within, bounded}
 use Rattle.host.specs.Recorded.{runOf, textsOf}
 use Rattle.host.proofs.Readings.{MoveIn, ScheduleIn}
 
@@ -47,12 +47,12 @@ ofs-length M phase n (Response r status value ∷ es) = omega (arith, ofs-length
 
 -- ── what the run makes is in the ranges of the texts' fields ──
 -- the objects at the start
-pub start-fit : (o : ℕ) (key : ℕ) → Word (reads (atStart o) key)
-start-fit o key = by (isRegister o)
+pub start-fit : (o : ℕ) → FitContent (atStart o)
+start-fit o x = by (isRegister o)
   where
-    by : (b : Bool) → Word (reads (cond b (register 0) (store (λ key. Never))) key)
+    by : (b : Bool) → Word (reads x (cond b (register 0) (store (λ key. Never))))
     by true = omega arith
-    by false = omega arith
+    by false = finds-fit x Never (omega arith)
 
 abbrev Rid : ℕ → Type 0
 Rid r = r ≤ 65535
@@ -122,7 +122,7 @@ module _ (table : List Program) (words : (prog at : ℕ) → Word (instrAt (code
   )
 
   -- what the run of a schedule made, and the texts of it, read back
-  module _ (opening : ℕ → Content) (start-fit : (o key : ℕ) → Word (reads (opening o) key)) (ms : List Move) (s : ScheduleIn ms) (b : Batch)
+  module _ (opening : ℕ → Content) (start-fit : (o : ℕ) → FitContent (opening o)) (ms : List Move) (s : ScheduleIn ms) (b : Batch)
       (e : runOf opening table ms ≡ made b) where
     fit : FitBatch M B Rid 1024 ms b
     fit =

@@ -22,7 +22,7 @@ use Rattle.machine.specs.declared.processes.Next.{Next}
 use Rattle.machine.specs.declared.processes.Next.the-variants.{Operation, Reply, Cut}
 use Rattle.machine.specs.Instructions.{Effect, effectAs, effectOf, local}
 use Rattle.machine.specs.Processes.{Advanced, behind, go, instrAt, resumed}
-use Rattle.machine.specs.Objects.{Content, register, store, reads, found, apply, changes, written, valueOf, heldOf, isHas, isRead, shown}
+use Rattle.machine.specs.Objects.{Content, register, store, finds, reads, apply, changes, written, valueOf, isHas, isRead, shown}
 use Rattle.machine.proofs.Steps.{follow}
 use Rattle.machine.specs.Instance.{Process, machine, nextOf, intoOf, codeAt, gone}
 
@@ -158,17 +158,23 @@ replies (Operation u into) s v f e = clash (cc)
 replies (Reply u) s v f e = let i : 0 ≡ s = cc in let j : u ≡ v = cc in (omega arith, subst Word j f)
 replies Cut s v f e = let i : 1 ≡ s = cc in let j : 0 ≡ v = cc in (omega arith, omega arith)
 
+-- what an operation finds is a value, or a 1 or 0
+pub finds-fit : (o : Op) (cell : Cell) → Word (valueOf cell) → Word (finds o cell)
+finds-fit o Never w = word-cond (isHas o) 0 0 w w
+finds-fit o (Put v) w = word-cond (isHas o) 1 v (omega arith) w
+
+-- whatever operation reads it
 abbrev pub FitContent : Content → Type 0
-FitContent c = (key : ℕ) → Word (reads c key)
+FitContent c = (o : Op) → Word (reads o c)
 
 module _ (o : Op) (w : Word (o .value)) where
   written-fit : (c : Content) → FitContent c → FitContent (written o c)
-  written-fit (register v) h key = w
-  written-fit (store cells) h key = by (eqb (o .key) key)
+  written-fit (register v) h x = w
+  written-fit (store cells) h x = by (eqb (o .key) (x .key))
     where
-      by : (b : Bool) → Word (valueOf (cond b (Put (o .value)) (cells key)))
-      by true = w
-      by false = h key
+      by : (b : Bool) → Word (finds x (cond b (Put (o .value)) (cells (x .key))))
+      by true = finds-fit x (Put (o .value)) w
+      by false = h x
 
   left-fit : (c : Content) → FitContent c → FitContent (apply o c .1)
   left-fit c h = by (changes o c)
@@ -176,15 +182,6 @@ module _ (o : Op) (w : Word (o .value)) where
       by : (b : Bool) → FitContent (cond b (written o c) c)
       by true = written-fit c h
       by false = h
-
--- what an operation finds is a value, or a 1 or 0
-found-fit : (o : Op) (c : Content) → FitContent c → Word (found o c)
-found-fit o (register v) h = h 0
-found-fit o (store cells) h = let cell = cells (o .key) in word-cond (isHas o) (heldOf cell) (valueOf cell) (held cell) (h (o .key))
-  where
-    held : (cell : Cell) → Word (heldOf cell)
-    held Never = omega arith
-    held (Put v) = omega arith
 
 -- a read shows its answer
 shown-fit : (o : Op) (answer : ℕ) → FitOp o → Word answer → FitOp (shown o answer)
@@ -215,7 +212,7 @@ module _ (limit : ℕ) (table : List Program) (words : (prog at : ℕ) → Word 
       let d = operation (r .stop .next) o e in
       let k = g .counted o (d .0) (d .1) in
       let w : FitOp o = subst (FitNext Words FitOp Word) (d .1) (g .next-fit) in
-      let answer : Word (apply o c .0) = word-cond (changes o c) 0 (found o c) (omega arith) (found-fit o c h) in (
+      let answer : Word (apply o c .0) = word-cond (changes o c) 0 (reads o c) (omega arith) (h o) in (
         shown-fit o (apply o c .0) w answer,
         left-fit o (w .3) c h,
         (

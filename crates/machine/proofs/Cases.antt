@@ -182,8 +182,9 @@ answers :
     ≡ 0 ∷ 4 ∷ 0 ∷ 0 ∷ 6 ∷ 0 ∷ 7 ∷ 0 ∷ 0 ∷ 0 ∷ 0 ∷ 6 ∷ 6 ∷ 0 ∷ 1 ∷ 1 ∷ []
 answers = refl
 
--- Wells 7 and 12 of store 8: asked for, volume 0 put into well 7, asked for again, and both read. Code 8 cannot tell them apart, code 10 can. Then a
--- volume is put over the 0; the same key of another store; and lines of kind 10 with a value, which put nothing, on a store and on a register.
+-- Well 7 is asked for, filled with volume 0, asked for again and read; well 12, never filled, is asked for and read. Code 8 cannot tell them
+-- apart, code 10 can. Then another volume for well 7; the same key in another store; and lines of kind 10 with a value, on a store and on a
+-- register, which put and write nothing.
 wells :
     answersFrom atStart
     (map (λ o. record { rid = 0; num = 0; op = o })

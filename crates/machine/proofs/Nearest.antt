@@ -2,7 +2,7 @@
 use Prim.Native.Nat.{ℕ, zero, suc, _≤_, _<_}
 use mathlib.Core.Path.{_≡_, refl, ap, _∙_}
 use mathlib.Core.Bool.{Bool, true, false, cond}
-use lib.Dec.{eqb, ltb}
+use lib.Dec.{eqb}
 use borrow.Author.Tests.{lt-ltb, le-ltb, ltb-true, ltb-false, eqb-true}
 use Rattle.basics.specs.Firsts.{firsts}
 use Rattle.basics.proofs.Tests.{byBool}
@@ -10,7 +10,7 @@ use Rattle.text.specs.declared.report.Entry.{Entry}
 use Rattle.text.specs.declared.report.Op.{Op}
 use Rattle.cells.specs.declared.stores.Cell.{Cell}
 use Rattle.cells.specs.declared.stores.Cell.the-variants.{Put}
-use Rattle.machine.specs.Objects.{Content, register, store, atStart, valueOf, reads, finds, found}
+use Rattle.machine.specs.Objects.{Content, register, store, isRegister, atStart, valueOf, finds, reads}
 use Rattle.machine.specs.Logs.{ops, after, afterAll, nearest, writes}
 use Rattle.machine.proofs.LogLaws.{after-snoc}
 
@@ -54,14 +54,11 @@ module _ (line : ℕ → Entry) where
       ∙ after-store (afterAll atStart (firsts line n)) (line n .op) object (λ key. nearest (ops line) object key n) h
       (store-nearest n object h)
 
-  -- A read takes the value of the nearest earlier write of its object, of a store at the same key, or 0.
-  pub read-nearest : (n object key : ℕ) → reads (afterAll atStart (firsts line n) object) key ≡ valueOf (nearest (ops line) object key n)
-  read-nearest n object key =
-      byBool (ltb object 8)
-      (λ t. ap (λ c. reads c key) (register-nearest n object key (ltb-true object 8 t)))
-      (λ t. ap (λ c. reads c key) (store-nearest n object (ltb-false object 8 t)))
-
-  -- An operation on a store finds what the nearest earlier put of its key left: of kind 10 it is 1 where there is one, of whatever value, else 0.
-  pub found-nearest : (n object : ℕ) (o : Op) → 8 ≤ object →
-      found o (afterAll atStart (firsts line n) object) ≡ finds o (nearest (ops line) object (o .key) n)
-  found-nearest n object o h = ap (found o) (store-nearest n object h)
+  -- A read takes the value of the nearest earlier write of its object, of a store at the same key, or 0; kind 10 takes 1 where its store has
+  -- such a write, of whatever value, or 0.
+  pub read-nearest : (n object : ℕ) (o : Op) → reads o (afterAll atStart (firsts line n) object)
+      ≡ (let write = nearest (ops line) object (o .key) n in cond (isRegister object) (valueOf write) (finds o write))
+  read-nearest n object o =
+      byBool (isRegister object)
+      (λ t. ap (reads o) (register-nearest n object (o .key) (ltb-true object 8 t)) ∙ rw t)
+      (λ t. ap (reads o) (store-nearest n object (ltb-false object 8 t)) ∙ rw t)

@@ -41,7 +41,7 @@ pub record ObjectsHeld (h : Objects) (cs : ℕ → Content) : Type 0 where
 
 -- what an operation leaves in a register that holds v
 abbrev pub registerLeft : Op → ℕ → ℕ
-registerLeft x v = reads (apply x (register v) .1) 0
+registerLeft x v = reads x (apply x (register v) .1)
 
 -- what it leaves in the stores that hold c, where it is one on a store
 abbrev pub storesLeft : Op → Contents → Contents

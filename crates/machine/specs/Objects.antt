@@ -31,11 +31,6 @@ abbrev pub heldOf : Cell → ℕ
 heldOf Never = 0
 heldOf (Put v) = 1
 
--- what a register, at any key, or a store at a key reads
-abbrev pub reads : Content → (key : ℕ) → ℕ
-reads (register v) key = v
-reads (store cells) key = valueOf (cells key)
-
 -- kind 7 writes a register, kind 9 puts into a store; nothing else changes an object
 abbrev pub isWrite : Op → Bool
 isWrite o = eqb (o .kind) 7
@@ -59,14 +54,14 @@ isHas o = eqb (o .kind) 10
 abbrev pub finds : Op → Cell → ℕ
 finds o cell = cond (isHas o) (heldOf cell) (valueOf cell)
 
--- what it finds in its object
-abbrev pub found : Op → Content → ℕ
-found o (register v) = v
-found o (store cells) = finds o (cells (o .key))
+-- what it reads: a register, whatever its key, or its key's cell in a store
+abbrev pub reads : Op → Content → ℕ
+reads o (register v) = v
+reads o (store cells) = finds o (cells (o .key))
 
 -- an operation's answer, 0 where it changes its object, and what it leaves
 abbrev pub apply : Op → Content → ℕ × Content
-apply o c = (cond (changes o c) 0 (found o c), cond (changes o c) (written o c) c)
+apply o c = (cond (changes o c) 0 (reads o c), cond (changes o c) (written o c) c)
 
 -- kinds 6, 8 and 10 read
 abbrev pub isRead : Op → Bool

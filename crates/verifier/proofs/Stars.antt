@@ -153,10 +153,10 @@ abbrev wells : (response7 response12 asked7 asked12 : String) → Audited → Ca
 wells response7 response12 asked7 asked12 = case programsWells (traceWells response7 response12) (reportWells asked7 asked12)
 
 -- program 0 asks for a key, program 1 reads register 0; request 2, of either, arrives first, and the line of request 1 stands above its own
-abbrev asksLater : (prog2 line1 line2 : String) → Audited → Case
-asksLater prog2 line1 line2 =
+abbrev asksLater : (request2 line1 line2 : String) → Audited → Case
+asksLater request2 line1 line2 =
     case ("program=0" ∷ "do=10,2,8,0" ∷ "do=0,2,0,0" ∷ "program=1" ∷ "do=6,2,0,0" ∷ "do=0,2,0,0" ∷ [])
-    (prog2 ∷ "request=1,0,5,0" ∷ "response=2,0,0" ∷ "response=1,0,0" ∷ []) ("of=2,0,1" ∷ "of=1,1,1" ∷ line1 ∷ line2 ∷ [])
+    (request2 ∷ "request=1,0,5,0" ∷ "response=2,0,0" ∷ "response=1,0,0" ∷ []) ("of=2,0,1" ∷ "of=1,1,1" ∷ line1 ∷ line2 ∷ [])
 
 abbrev keys : List Case
 keys =
@@ -172,7 +172,6 @@ keys =
     ∷ wells "response=2,0,1" "response=3,0,0" "log=8,2,1,10,7,1" "log=8,3,1,11,12,0" (refused 5 6)
     -- a line of kind 10 puts nothing into its store, writes no register, and is a fault of its own request alone
     ∷ asksLater "request=2,0,5,0" "log=8,1,1,10,5,1" "log=8,2,1,10,5,0" (refused 10 2)
-    ∷ asksLater "request=2,1,0,0" "log=0,1,1,10,5,0" "log=0,2,1,6,0,0" (refused 10 2)
     ∷ asksLater "request=2,1,0,0" "log=0,1,1,10,0,1" "log=0,2,1,6,0,0" (refused 10 2)
     -- a register for the store; code 11
     ∷ case ("program=0" ∷ "do=10,2,7,0" ∷ "do=0,2,0,0" ∷ []) [] [] (refused 2 2)
