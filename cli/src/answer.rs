@@ -42,33 +42,14 @@ impl fmt::Display for Item {
 #[derive(Clone, Debug, PartialEq, Eq)]
 pub struct Answer {
     pub audited: Audited,
-    /// None of a refused batch, and of an output that was kept before there was an order.
+    /// None of a refused batch.
     pub order: Option<Vec<Item>>,
 }
 
 impl Answer {
     /// Reads what an audit of these texts printed, all of it, or says what it is instead.
     pub fn read(printed: &[u8], texts: &Texts) -> Result<Answer, &'static str> {
-        Answer::of(Audited::read(printed), texts)
-    }
-
-    /// The same of an output that was kept. Versions without a bill kept four verdict lines, those without an order nothing behind
-    /// them; and these still hold.
-    pub fn read_kept(output: &[u8], texts: &Texts) -> Result<Answer, &'static str> {
-        let read = Audited::read(output).or_else(|| Audited::read_without_bill(output));
-        let answer = Answer::of(read, texts);
-        match read {
-            Some((audited, [])) if audited.bill.is_none() => Ok(answer.unwrap_or(Answer {
-                audited,
-                order: None,
-            })),
-            _ => answer,
-        }
-    }
-
-    /// The verdict lines that were read, with what stands behind them.
-    fn of(read: Option<(Audited, &[u8])>, texts: &Texts) -> Result<Answer, &'static str> {
-        let (audited, behind) = read.ok_or("no verdict")?;
+        let (audited, behind) = Audited::read(printed).ok_or("no verdict")?;
         let order = match audited.verdict {
             0 => items(behind)
                 .filter(|items| is_whole(items, &audited, texts))
@@ -87,7 +68,7 @@ fn items(lines: &[u8]) -> Option<Vec<Item>> {
 }
 
 /// Whether every line of the trace stands there, in its order, and as many operations as were counted. More is proved of what the
-/// library answers; but a kept output may have been cut off.
+/// library answers; this is what a status rests on.
 fn is_whole(items: &[Item], audited: &Audited, texts: &Texts) -> bool {
     let trace = texts.bytes(Text::Trace);
     let lines = trace.iter().filter(|byte| **byte == b'\n').count() as u64;
@@ -101,14 +82,10 @@ fn is_whole(items: &[Item], audited: &Audited, texts: &Texts) -> bool {
 #[cfg(test)]
 mod tests {
     use super::*;
-    use crate::verdicts::Bill;
 
     const FRONT: &str = "verdict=0\nline=0\nrequests=1\noperations=1\nblocks=0\nrest=1\n";
     const REFUSED: &str = "verdict=9\nline=0\nrequests=0\noperations=0\nblocks=0\nrest=0\n";
     const ORDER: &str = "event=1\nop=65535,1\nevent=2\n";
-    /// The verdict lines from before there was a bill.
-    const EARLIER: &str = "verdict=0\nline=0\nrequests=1\noperations=1\n";
-    const EARLIER_REFUSED: &str = "verdict=9\nline=0\nrequests=0\noperations=0\n";
 
     fn texts() -> Texts {
         let trace = b"request=65535,0,0,0\nresponse=65535,0,0\n";
@@ -117,10 +94,6 @@ mod tests {
 
     fn read(printed: &str) -> Result<Answer, &'static str> {
         Answer::read(printed.as_bytes(), &texts())
-    }
-
-    fn kept(output: &str) -> Result<Answer, &'static str> {
-        Answer::read_kept(output.as_bytes(), &texts())
     }
 
     #[test]
@@ -164,60 +137,5 @@ mod tests {
             assert!(read(&format!("{FRONT}{behind}")).is_err(), "{behind:?}");
         }
         assert_eq!(read("verdict=0\n"), Err("no verdict"));
-    }
-
-    #[test]
-    fn a_kept_output_is_read_as_it_was_printed() {
-        let whole = format!("{FRONT}{ORDER}");
-        assert_eq!(kept(&whole), read(&whole));
-        assert_eq!(kept(REFUSED), read(REFUSED));
-        let bill = Bill { blocks: 0, rest: 1 };
-        assert_eq!(kept(&whole).unwrap().audited.bill, Some(bill));
-    }
-
-    #[test]
-    fn a_kept_output_may_be_from_before_there_was_a_bill() {
-        for (earlier, today) in [
-            (format!("{EARLIER}{ORDER}"), format!("{FRONT}{ORDER}")),
-            (EARLIER_REFUSED.to_owned(), REFUSED.to_owned()),
-        ] {
-            let mut wanted = read(&today).unwrap();
-            wanted.audited.bill = None;
-            assert_eq!(kept(&earlier), Ok(wanted));
-            assert_eq!(read(&earlier), Err("no verdict"));
-        }
-    }
-
-    #[test]
-    fn a_kept_output_may_be_from_before_there_was_an_order() {
-        let Answer { audited, order } = kept(EARLIER).unwrap();
-        assert_eq!((audited.operations, audited.bill, order), (1, None, None));
-        let empty = "verdict=0\nline=0\nrequests=0\noperations=0\n";
-        let answer = Answer::read_kept(empty.as_bytes(), &Texts::of(Vec::new()));
-        assert_eq!(answer.unwrap().order, Some(Vec::new()));
-    }
-
-    #[test]
-    fn no_version_kept_anything_else() {
-        for behind in [
-            "blocks=0\nrest=1\n",
-            "blocks=0\nrest=1\nevent=1\nop=65535,1\n",
-            "blocks=0\n",
-            "blocks=0\nevent=1\nop=65535,1\nevent=2\n",
-            "rest=1\nevent=1\nop=65535,1\nevent=2\n",
-            "rest=1\nblocks=0\nevent=1\nop=65535,1\nevent=2\n",
-            "blocks=1\nrest=0\nevent=1\nop=65535,1\nevent=2\n",
-            "blocks=0\nrest=01\nevent=1\nop=65535,1\nevent=2\n",
-            "event=1\nop=65535,1\nevent=2\nblocks=0\nrest=1\n",
-            "event=1\nop=65535,1\n",
-            "\n",
-        ] {
-            assert!(kept(&format!("{EARLIER}{behind}")).is_err(), "{behind:?}");
-        }
-        for behind in ["blocks=0\n", "rest=0\n", "blocks=0\nrest=1\n", ORDER] {
-            let output = format!("{EARLIER_REFUSED}{behind}");
-            assert!(kept(&output).is_err(), "{behind:?}");
-        }
-        assert!(kept(&format!("{REFUSED}{ORDER}")).is_err());
     }
 }

@@ -12,24 +12,31 @@ pub struct Flag {
     pub takes_value: bool,
 }
 
+/// Every command has this one.
 pub const HELP: Flag = flag("--help", Some(b'h'));
+pub const BRIEF: Flag = flag("--brief", None);
+pub const COMPLETE: Flag = flag("--complete", None);
+pub const JOBS: Flag = valued("--jobs", Some(b'j'));
 pub const JSON: Flag = flag("--json", None);
+pub const LIST: Flag = valued("--list", None);
 pub const MISSING_AS_EMPTY: Flag = flag("--missing-as-empty", None);
 pub const NULL: Flag = flag("--null", Some(b'0'));
-pub const JOBS: Flag = Flag {
-    takes_value: true,
-    ..flag("--jobs", Some(b'j'))
-};
-pub const LIST: Flag = Flag {
-    takes_value: true,
-    ..flag("--list", None)
-};
+pub const SINCE: Flag = valued("--since", None);
+pub const STATE: Flag = valued("--state", None);
+pub const VERDICT: Flag = valued("--verdict", None);
 
 const fn flag(long: &'static str, short: Option<u8>) -> Flag {
     Flag {
         long,
         short,
         takes_value: false,
+    }
+}
+
+const fn valued(long: &'static str, short: Option<u8>) -> Flag {
+    Flag {
+        takes_value: true,
+        ..flag(long, short)
     }
 }
 
@@ -43,6 +50,16 @@ pub struct Given {
 impl Given {
     pub fn has(&self, flag: &Flag) -> bool {
         self.options.iter().any(|(long, _)| *long == flag.long)
+    }
+
+    /// How an object is to be printed, where one is.
+    pub fn objects(&self) -> Result<Option<Objects>, NotRun> {
+        match (self.has(&JSON), self.has(&BRIEF)) {
+            (true, true) => Ok(Some(Objects::Brief)),
+            (true, false) => Ok(Some(Objects::Whole)),
+            (false, true) => Err(NotRun::new("--brief is for --json")),
+            (false, false) => Ok(None),
+        }
     }
 
     /// The value of an option; of several the last.
@@ -63,8 +80,16 @@ impl Given {
     }
 }
 
-/// Reads the words of a command that has these options.
-pub fn read(mut words: impl Iterator<Item = OsString>, flags: &[Flag]) -> Result<Given, NotRun> {
+/// Whether objects of JSON have their orders.
+#[derive(Clone, Copy, Debug, PartialEq, Eq)]
+pub enum Objects {
+    Whole,
+    Brief,
+}
+
+/// Reads the words of a command that has these options, and the one that every command has.
+pub fn read(words: &[OsString], flags: &[Flag]) -> Result<Given, NotRun> {
+    let mut words = words.iter().cloned();
     let mut given = Given::default();
     while let Some(word) = words.next() {
         if word == "--" {
@@ -89,6 +114,7 @@ pub fn read(mut words: impl Iterator<Item = OsString>, flags: &[Flag]) -> Result
 fn find<'a>(word: &OsStr, flags: &'a [Flag]) -> Result<(&'a Flag, Option<OsString>), NotRun> {
     let found = flags
         .iter()
+        .chain([&HELP])
         .find_map(|flag| Some((flag, value_in(word.as_bytes(), flag)?)));
     let word = shown::name(word);
     found.ok_or_else(|| {
@@ -120,7 +146,8 @@ mod tests {
     use super::*;
 
     fn read_words(words: &[&str]) -> Result<Given, NotRun> {
-        read(words.iter().map(OsString::from), &[HELP, JSON, JOBS])
+        let words: Vec<OsString> = words.iter().map(OsString::from).collect();
+        read(&words, &[JSON, JOBS, BRIEF])
     }
 
     #[test]
@@ -135,6 +162,16 @@ mod tests {
                 Some(OsStr::new("4"))
             );
         }
+    }
+
+    #[test]
+    fn an_order_can_be_left_out_of_objects_alone() {
+        let objects = |words: &[&str]| read_words(words).unwrap().objects();
+        assert_eq!(objects(&[]).unwrap(), None);
+        assert_eq!(objects(&["--json"]).unwrap(), Some(Objects::Whole));
+        let brief = objects(&["--json", "--brief"]).unwrap();
+        assert_eq!(brief, Some(Objects::Brief));
+        assert!(objects(&["--brief"]).is_err());
     }
 
     #[test]

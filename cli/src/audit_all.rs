@@ -1,32 +1,41 @@
 //! `teaselshears audit-all`: every batch of a spool once, several at a time, with the results kept.
 
+mod folder;
 mod progress;
-mod results;
-mod table;
-mod time;
 mod workers;
 
-use crate::arguments::{self, Given, HELP, JOBS, JSON, LIST, NULL};
-use crate::findings::{Finding, State};
+use crate::arguments::{Given, Objects, BRIEF, COMPLETE, JOBS, JSON, LIST, NULL};
+use crate::audit::wanted;
+use crate::commands::Command;
+use crate::findings::{Auditor, Finding, State, Wanted};
 use crate::help;
+use crate::kept::{self, Kept};
 use crate::outcome::{print_to, say, standard_output, NotRun, Status};
 use crate::shown;
 use crate::system;
+use crate::table;
 use crate::texts;
 use crate::verdicts;
+use folder::Results;
 use progress::Progress;
-use results::Results;
 use std::collections::BTreeMap;
 use std::ffi::{OsStr, OsString};
 use std::os::unix::ffi::OsStrExt;
 use std::path::Path;
 use std::thread;
 
+pub const COMMAND: Command = Command {
+    name: "audit-all",
+    flags: &[BRIEF, COMPLETE, JOBS, JSON, LIST, NULL],
+    help: help::AUDIT_ALL,
+    run,
+};
+
 /// What a run prints.
 #[derive(Clone, Copy, PartialEq, Eq)]
 enum Prints {
     Nothing,
-    Objects,
+    Objects(Objects),
     Names(State),
 }
 
@@ -34,46 +43,44 @@ struct Options {
     jobs: usize,
     prints: Prints,
     null: bool,
+    wanted: Wanted,
 }
 
-pub fn run(words: impl Iterator<Item = OsString>) -> Result<Status, NotRun> {
-    let given = arguments::read(words, &[HELP, JOBS, JSON, LIST, NULL])?;
-    if given.has(&HELP) {
-        return help::print(help::AUDIT_ALL);
-    }
-    let options = Options::read(&given)?;
+fn run(given: &Given) -> Result<Status, NotRun> {
+    let options = Options::read(given)?;
     let [spool, folder] = given.exactly("two folders are")?;
     let (spool, folder) = (Path::new(spool), Path::new(folder));
     // Where objects cannot be printed nothing is begun.
     let mut output = match options.prints {
-        Prints::Objects => Some(standard_output()?),
+        Prints::Objects(objects) => Some((standard_output()?, objects)),
         Prints::Names(_) | Prints::Nothing => None,
     };
     let results = Results::open(folder, spool)?;
     let names = batches_of(spool)?;
     system::note_signals();
     let mut printed = Ok(());
-    let findings = audit_batches(spool, &results, &names, options.jobs, |finding| {
-        if let (Some(output), Ok(())) = (&mut output, &printed) {
-            printed = print_to(output, finding.json().as_bytes());
+    let findings = audit_batches(spool, &results, &names, &options, |finding| {
+        if let (Some((output, objects)), Ok(())) = (&mut output, &printed) {
+            printed = print_to(output, finding.json(*objects).as_bytes());
         }
     });
-    results.keep_table(&table::of(&results, &findings)?)?;
+    let rows = with_others(&findings, &results.folder, options.wanted)?;
+    results.keep_table(&table::text(rows.values()))?;
     printed?;
-    print_names(&findings, &options)?;
+    print_names(&rows, &options)?;
     ended(spool, &findings)
 }
 
 impl Options {
     fn read(given: &Given) -> Result<Options, NotRun> {
-        let prints = match given.value(&LIST) {
-            Some(word) => Prints::Names(state_listed(word)?),
-            None if given.has(&JSON) => Prints::Objects,
-            None => Prints::Nothing,
+        let prints = match (given.value(&LIST), given.objects()?) {
+            (Some(word), None) => Prints::Names(state_listed(word)?),
+            (None, Some(objects)) => Prints::Objects(objects),
+            (None, None) => Prints::Nothing,
+            (Some(_), Some(_)) => {
+                return Err(NotRun::new("--json and --list are not given together"))
+            }
         };
-        if given.has(&JSON) && given.has(&LIST) {
-            return Err(NotRun::new("--json and --list are not given together"));
-        }
         if given.has(&NULL) && !given.has(&LIST) {
             return Err(NotRun::new("--null is for the names of --list"));
         }
@@ -81,14 +88,19 @@ impl Options {
             jobs: jobs(given.value(&JOBS))?,
             prints,
             null: given.has(&NULL),
+            wanted: wanted(given),
         })
     }
 }
 
+/// A state that somebody has to see to.
 fn state_listed(word: &OsStr) -> Result<State, NotRun> {
-    let listed = [State::Refused, State::Changed, State::Failed];
-    let found = listed.into_iter().find(|state| word == state.word());
-    found.ok_or_else(|| NotRun::new("--list takes refused, changed or failed"))
+    let mut listed = State::ALL.to_vec();
+    listed.retain(|state| !matches!(state, State::Accepted | State::Waiting));
+    let words: Vec<&str> = listed.iter().map(|state| state.word()).collect();
+    State::named(word)
+        .filter(|state| listed.contains(state))
+        .ok_or_else(|| NotRun(format!("--list takes one of {}", words.join(", "))))
 }
 
 fn jobs(word: Option<&OsStr>) -> Result<usize, NotRun> {
@@ -119,12 +131,13 @@ fn audit_batches(
     spool: &Path,
     results: &Results,
     names: &[OsString],
-    jobs: usize,
+    options: &Options,
     mut take: impl FnMut(&Finding),
 ) -> Findings {
     let mut findings = Findings::new();
     let mut progress = Progress::new(names.len());
-    workers::run(spool, results, names, jobs, &mut progress, |finding| {
+    let work = workers::Work::new(spool, results, names, options.wanted);
+    workers::run(&work, options.jobs, &mut progress, |finding| {
         take(&finding);
         findings.insert(finding.batch.clone(), finding.without_order());
     });
@@ -144,12 +157,30 @@ fn waiting(name: &OsStr) -> Finding {
     Finding::none(name.to_owned(), State::Waiting, sentence)
 }
 
-fn print_names(findings: &Findings, options: &Options) -> Result<(), NotRun> {
+/// The batches of the spool as they were found, and the kept results of those that are no longer in it.
+fn with_others(findings: &Findings, folder: &Path, wanted: Wanted) -> Result<Findings, NotRun> {
+    let mut auditor = Auditor::new(wanted);
+    let mut rows = findings.clone();
+    for name in kept::names(folder)? {
+        if rows.contains_key(&name) {
+            continue;
+        }
+        let finding = match Kept::read(folder, &name) {
+            Ok(Some(kept)) => kept.finding(&name, &mut auditor)?.without_order(),
+            Ok(None) => continue,
+            Err(damage) => damage.finding(name.clone()),
+        };
+        rows.insert(name, finding);
+    }
+    Ok(rows)
+}
+
+fn print_names(rows: &Findings, options: &Options) -> Result<(), NotRun> {
     let Prints::Names(state) = options.prints else {
         return Ok(());
     };
     let mut listed = Vec::new();
-    for finding in findings.values().filter(|finding| finding.state == state) {
+    for finding in rows.values().filter(|finding| finding.state == state) {
         match options.null {
             true => listed.extend([finding.batch.as_bytes(), b"\0"].concat()),
             false => listed.extend(format!("{}\n", shown::name(&finding.batch)).into_bytes()),
@@ -163,8 +194,14 @@ fn ended(spool: &Path, findings: &Findings) -> Result<Status, NotRun> {
     let count = |state| findings.values().filter(|f| f.state == state).count();
     let mut counts: Vec<String> = Vec::new();
     for state in State::ALL {
-        // Only a run that was stopped leaves batches waiting.
-        if state != State::Waiting || count(state) > 0 {
+        // The others are rare.
+        let always = [
+            State::Accepted,
+            State::Refused,
+            State::Changed,
+            State::Failed,
+        ];
+        if always.contains(&state) || count(state) > 0 {
             counts.push(format!("{} {}", count(state), state.word()));
         }
     }

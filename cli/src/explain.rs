@@ -1,21 +1,24 @@
 //! `teaselshears explain`: a verdict in words.
 
-use crate::arguments::{self, HELP};
+use crate::arguments::Given;
+use crate::commands::Command;
 use crate::help;
-use crate::outcome::{NotRun, Status};
+use crate::outcome::{print, NotRun, Status};
 use crate::shown;
 use crate::verdicts::{self, Verdict};
-use std::ffi::OsString;
 use std::os::unix::ffi::OsStrExt;
+
+pub const COMMAND: Command = Command {
+    name: "explain",
+    flags: &[],
+    help: help::EXPLAIN,
+    run,
+};
 
 /// How wide a line of the explanation is.
 const WIDTH: usize = 78;
 
-pub fn run(words: impl Iterator<Item = OsString>) -> Result<Status, NotRun> {
-    let given = arguments::read(words, &[HELP])?;
-    if given.has(&HELP) {
-        return help::print(help::EXPLAIN);
-    }
+fn run(given: &Given) -> Result<Status, NotRun> {
     let [word] = given.exactly("one verdict is")?;
     let found = verdicts::number(word.as_bytes()).and_then(verdicts::verdict);
     let verdict = found.ok_or_else(|| {
@@ -24,7 +27,8 @@ pub fn run(words: impl Iterator<Item = OsString>) -> Result<Status, NotRun> {
             "there is no verdict '{word}' ('--help' says which there are)"
         ))
     })?;
-    help::print(&explained(verdict))
+    print(explained(verdict).as_bytes())?;
+    Ok(Status::Success)
 }
 
 fn explained(verdict: &Verdict) -> String {

@@ -6,18 +6,25 @@ mod arguments;
 mod audit;
 mod audit_all;
 mod causes;
+mod commands;
+mod csv;
 mod explain;
+mod files;
 mod findings;
 mod formats;
 mod help;
 mod json;
+mod kept;
 mod order;
 mod outcome;
 mod proved;
 mod record;
+mod results;
 mod shown;
 mod system;
+mod table;
 mod texts;
+mod time;
 mod verdicts;
 
 use outcome::{say, NotRun, Status};
@@ -31,7 +38,7 @@ fn main() -> ExitCode {
     let words: Vec<OsString> = env::args_os().skip(1).collect();
     let started = thread::Builder::new()
         .stack_size(proved::STACK)
-        .spawn(move || run(words));
+        .spawn(move || commands::run(&words));
     let ended = started
         .map_err(|why| NotRun(format!("no thread can be started: {why}")))
         .and_then(|thread| thread.join().expect("a panic ends the program"));
@@ -40,26 +47,4 @@ fn main() -> ExitCode {
         Status::NotRun
     });
     status.into()
-}
-
-fn run(words: Vec<OsString>) -> Result<Status, NotRun> {
-    let mut words = words.into_iter();
-    let Some(command) = words.next() else {
-        return Err(NotRun::new(
-            "no command is given ('teaselshears --help' lists them)",
-        ));
-    };
-    match command.to_str() {
-        Some("audit") => audit::run(words),
-        Some("order") => order::run(words),
-        Some("record") => record::run(words),
-        Some("audit-all") => audit_all::run(words),
-        Some("explain") => explain::run(words),
-        Some("-h" | "--help" | "help") => help::print(help::PROGRAM),
-        Some("-V" | "--version") => help::print_version(),
-        _ => Err(NotRun(format!(
-            "there is no command '{}' ('teaselshears --help' lists them)",
-            shown::name(&command)
-        ))),
-    }
 }

@@ -2,27 +2,29 @@
 //! those of each item's line.
 
 use crate::answer::Item;
-use crate::arguments::{self, HELP, MISSING_AS_EMPTY};
-use crate::audit::missing;
-use crate::findings::Finding;
+use crate::arguments::{Given, COMPLETE, MISSING_AS_EMPTY};
+use crate::audit::{missing, wanted};
+use crate::commands::Command;
+use crate::findings::Auditor;
 use crate::formats;
 use crate::help;
 use crate::outcome::{count, print, say, NotRun, Status};
-use crate::proved::Proved;
 use crate::shown;
 use crate::texts::{Text, Texts, BATCH};
 use std::collections::BTreeMap;
-use std::ffi::OsString;
 use std::path::Path;
 
-pub fn run(words: impl Iterator<Item = OsString>) -> Result<Status, NotRun> {
-    let given = arguments::read(words, &[HELP, MISSING_AS_EMPTY])?;
-    if given.has(&HELP) {
-        return help::print(help::ORDER);
-    }
+pub const COMMAND: Command = Command {
+    name: "order",
+    flags: &[COMPLETE, MISSING_AS_EMPTY],
+    help: help::ORDER,
+    run,
+};
+
+fn run(given: &Given) -> Result<Status, NotRun> {
     let [folder] = given.exactly("one folder is")?;
-    let texts = Texts::read(Path::new(folder), &BATCH, missing(&given))?;
-    let (finding, _) = Finding::audit(folder.to_owned(), &texts, &mut Proved::new())?;
+    let texts = Texts::read(Path::new(folder), &BATCH, missing(given))?;
+    let (finding, _) = Auditor::new(wanted(given)).audit(folder.to_owned(), &texts)?;
     let mut sentence = finding.sentence;
     if let Some(order) = &finding.order {
         let told = told(order, &texts).ok_or_else(|| {

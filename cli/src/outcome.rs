@@ -10,6 +10,8 @@ use std::process::ExitCode;
 #[derive(Clone, Copy, Debug, PartialEq, Eq, PartialOrd, Ord)]
 pub enum Status {
     Success,
+    /// Accepted, but with nothing in it, or with requests left open where that was asked about.
+    Incomplete,
     Refused,
     NotRun,
 }
@@ -20,6 +22,7 @@ impl From<Status> for ExitCode {
             Status::Success => 0,
             Status::Refused => 1,
             Status::NotRun => 2,
+            Status::Incomplete => 3,
         })
     }
 }

@@ -1,7 +1,10 @@
 //! `teaselshears record`: the run of a schedule, and the batch that it means written to a folder.
 
-use crate::arguments::{self, HELP, MISSING_AS_EMPTY};
+mod new_folder;
+
+use crate::arguments::{Given, MISSING_AS_EMPTY};
 use crate::audit::missing;
+use crate::commands::Command;
 use crate::findings;
 use crate::help;
 use crate::outcome::{count, print, say, NotRun, Status};
@@ -10,19 +13,21 @@ use crate::shown;
 use crate::system;
 use crate::texts::{lines_of, Missing, Text, Texts, BATCH, RUN};
 use crate::verdicts;
-use std::ffi::OsString;
+use new_folder::NewFolder;
 use std::fs::{self, File};
 use std::io::{self, Write};
 use std::path::{Path, PathBuf};
-use std::process;
 
-pub fn run(words: impl Iterator<Item = OsString>) -> Result<Status, NotRun> {
-    let given = arguments::read(words, &[HELP, MISSING_AS_EMPTY])?;
-    if given.has(&HELP) {
-        return help::print(help::RECORD);
-    }
+pub const COMMAND: Command = Command {
+    name: "record",
+    flags: &[MISSING_AS_EMPTY],
+    help: help::RECORD,
+    run,
+};
+
+fn run(given: &Given) -> Result<Status, NotRun> {
     let [folder, out] = given.exactly("two folders are")?;
-    let texts = Texts::read(Path::new(folder), &RUN, missing(&given))?;
+    let texts = Texts::read(Path::new(folder), &RUN, missing(given))?;
     let mut proved = Proved::new();
     let printed = proved.record(&texts)?;
     let recorded = Recorded::read(printed).ok_or_else(|| {
@@ -98,10 +103,11 @@ fn publish(out: &Path, batch: &Texts) -> Result<(), NotRun> {
         Err(why) => return Err(cannot(why)),
     }
     fs::create_dir_all(&parent).map_err(cannot)?;
-    let new = new_folder(&parent).map_err(cannot)?;
-    let moved = write_batch(&new, batch).and_then(|()| system::rename_new(&new, out));
+    new_folder::clear_left(&parent);
+    let new = NewFolder::make(&parent).map_err(cannot)?;
+    let moved = write_batch(&new.path, batch).and_then(|()| system::rename_new(&new.path, out));
     if let Err(why) = moved {
-        let _ = fs::remove_dir_all(&new);
+        let _ = fs::remove_dir_all(&new.path);
         return match fs::symlink_metadata(out) {
             // Another run was first.
             Ok(_) => is_batch(out, batch),
@@ -133,18 +139,6 @@ fn is_batch(out: &Path, batch: &Texts) -> Result<(), NotRun> {
             shown::name(out.as_os_str())
         ))),
     }
-}
-
-/// A folder of a name that nothing has, hidden from whoever takes the names here for batches.
-fn new_folder(parent: &Path) -> io::Result<PathBuf> {
-    let names = (0..1000).map(|number| format!(".teaselshears-{}-{number}", process::id()));
-    for path in names.map(|name| parent.join(name)) {
-        match fs::create_dir(&path) {
-            Err(why) if why.kind() == io::ErrorKind::AlreadyExists => {}
-            made => return made.map(|()| path),
-        }
-    }
-    Err(io::ErrorKind::AlreadyExists.into())
 }
 
 fn write_batch(folder: &Path, batch: &Texts) -> io::Result<()> {

@@ -1,7 +1,7 @@
 //! Names and bytes as a person may see them: on one line, and harmless to a terminal.
 
-use std::ffi::OsStr;
-use std::os::unix::ffi::OsStrExt;
+use std::ffi::{OsStr, OsString};
+use std::os::unix::ffi::{OsStrExt, OsStringExt};
 
 /// How many bytes of a line are shown.
 const SHOWN: usize = 100;
@@ -17,6 +17,36 @@ pub fn name(name: &OsStr) -> String {
         push_bytes(&mut shown, chunk.invalid());
     }
     shown
+}
+
+/// The same for a cell of a spreadsheet, which takes what begins with one of these for a formula.
+pub fn cell(name: &OsStr) -> String {
+    let shown = self::name(name);
+    match shown.as_bytes() {
+        [first @ (b'=' | b'+' | b'-' | b'@'), ..] => format!("\\x{first:02x}{}", &shown[1..]),
+        _ => shown,
+    }
+}
+
+/// The name that is shown so, in a cell or elsewhere; none where no name is.
+pub fn name_shown_as(shown: &str) -> Option<OsString> {
+    let mut name = Vec::new();
+    let mut rest = shown.as_bytes();
+    while let [first, behind @ ..] = rest {
+        (rest, _) = match (first, behind) {
+            (b'\\', [b'\\', behind @ ..]) => (behind, name.push(b'\\')),
+            (b'\\', [b'x', high, low, behind @ ..]) => {
+                let digits = [char::from(*high), char::from(*low)].map(|digit| digit.to_digit(16));
+                let [Some(high), Some(low)] = digits else {
+                    return None;
+                };
+                (behind, name.push((high * 16 + low) as u8))
+            }
+            (b'\\', _) => return None,
+            _ => (behind, name.push(*first)),
+        };
+    }
+    Some(OsString::from_vec(name))
 }
 
 fn push_letter(shown: &mut String, letter: char) {
@@ -81,6 +111,40 @@ mod tests {
         assert_eq!(shown(b"a\\xff"), "a\\\\xff");
         assert_eq!(shown(b"tab\tfeed\n\x1b"), "tab\\x09feed\\x0a\\x1b");
         assert_eq!(shown("a\u{202e}b".as_bytes()), "a\\xe2\\x80\\xaeb");
+    }
+
+    #[test]
+    fn no_cell_is_a_formula() {
+        for (bytes, wanted) in [
+            (&b"=1+1"[..], "\\x3d1+1"),
+            (b"+1", "\\x2b1"),
+            (b"-dash", "\\x2ddash"),
+            (b"@sum", "\\x40sum"),
+            (b"a=1", "a=1"),
+            (b"\\x3d", "\\\\x3d"),
+        ] {
+            assert_eq!(cell(OsStr::from_bytes(bytes)), wanted);
+        }
+    }
+
+    #[test]
+    fn a_name_is_found_by_how_it_is_shown() {
+        for bytes in [
+            "Käse 日本".as_bytes(),
+            b"a\xff\\xff\n",
+            b"=1",
+            b"-",
+            b"",
+            b"\\",
+        ] {
+            let own = OsStr::from_bytes(bytes);
+            for shown in [name(own), cell(own)] {
+                assert_eq!(name_shown_as(&shown).as_deref(), Some(own), "{shown}");
+            }
+        }
+        for shown in ["\\", "\\y", "\\x", "\\x1", "\\x1g", "a\\"] {
+            assert_eq!(name_shown_as(shown), None, "{shown}");
+        }
     }
 
     #[test]

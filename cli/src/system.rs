@@ -50,6 +50,14 @@ pub fn open_folder(path: &Path) -> io::Result<File> {
         .open(path)
 }
 
+/// A folder, and no link to one, that can be locked.
+pub fn open_to_lock(path: &Path) -> io::Result<File> {
+    OpenOptions::new()
+        .read(true)
+        .custom_flags(O_DIRECTORY | O_NOFOLLOW)
+        .open(path)
+}
+
 /// Opens a file of a folder for reading, without waiting for the other end of a pipe.
 pub fn open_in(folder: &File, name: &CStr) -> io::Result<File> {
     open_with(folder, name, O_NONBLOCK | O_NOCTTY)
@@ -58,6 +66,11 @@ pub fn open_in(folder: &File, name: &CStr) -> io::Result<File> {
 /// Whether a folder has this name, be it a link that leads nowhere.
 pub fn has_name(folder: &File, name: &CStr) -> bool {
     open_with(folder, name, O_PATH | O_NOFOLLOW).is_ok()
+}
+
+/// What a name of a folder leads to, to ask about and not to read.
+pub fn find(folder: &File, name: &CStr) -> io::Result<File> {
+    open_with(folder, name, O_PATH)
 }
 
 fn open_with(folder: &File, name: &CStr, flags: c_int) -> io::Result<File> {

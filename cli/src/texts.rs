@@ -1,11 +1,12 @@
 //! The texts of a folder, each read once into memory. What was read is what is audited, kept and compared.
 
+use crate::files;
 use crate::outcome::NotRun;
 use crate::shown;
 use crate::system;
 use std::ffi::{CStr, OsString};
 use std::fs::{self, File};
-use std::io::{self, Read};
+use std::io;
 use std::path::Path;
 
 /// One byte more than a text may have, so that an overlong one is seen as such.
@@ -30,7 +31,7 @@ impl Text {
         name.to_str().expect("the names are ASCII")
     }
 
-    fn c_name(self) -> &'static CStr {
+    pub fn c_name(self) -> &'static CStr {
         match self {
             Text::Programs => c"programs.txt",
             Text::Trace => c"trace.txt",
@@ -66,9 +67,10 @@ impl Texts {
     /// Reads the texts of a folder. One with none of them is no batch, whatever is said of missing ones.
     pub fn read(folder: &Path, texts: &[Text], missing: Missing) -> Result<Texts, NotRun> {
         let opened = open_folder(folder)?;
+        let names: Vec<&CStr> = texts.iter().map(|text| text.c_name()).collect();
         let mut found = Texts::default();
-        for text in texts {
-            match read_file(&opened, text.c_name(), READ_LIMIT)? {
+        for (text, bytes) in texts.iter().zip(files::read(&opened, &names, READ_LIMIT)?) {
+            match bytes {
                 Some(bytes) => found.read.push((*text, bytes)),
                 None => found.missing.push(*text),
             }
@@ -120,26 +122,4 @@ pub fn names_in(folder: &Path) -> io::Result<Vec<OsString>> {
     entries
         .map(|entry| entry.map(|entry| entry.file_name()))
         .collect()
-}
-
-/// The first bytes of a file of a folder, or none where it is not there. A link that leads nowhere is there.
-pub fn read_file(folder: &File, name: &CStr, limit: u64) -> Result<Option<Vec<u8>>, NotRun> {
-    let why = match system::open_in(folder, name).and_then(|file| read_front(file, limit)) {
-        Ok(bytes) => return Ok(Some(bytes)),
-        Err(why) => why,
-    };
-    if why.kind() == io::ErrorKind::NotFound && !system::has_name(folder, name) {
-        return Ok(None);
-    }
-    let name = name.to_string_lossy();
-    Err(NotRun(format!("{name} cannot be read: {why}")))
-}
-
-fn read_front(file: File, limit: u64) -> io::Result<Vec<u8>> {
-    if !file.metadata()?.is_file() {
-        return Err(io::Error::other("it is not a regular file"));
-    }
-    let mut bytes = Vec::new();
-    file.take(limit).read_to_end(&mut bytes)?;
-    Ok(bytes)
 }

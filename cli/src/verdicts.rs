@@ -27,6 +27,15 @@ pub fn text(number: u64) -> Option<Text> {
     verdict(number).and_then(|verdict| verdict.text)
 }
 
+const VERDICT_LINES: [&str; 6] = [
+    "verdict=",
+    "line=",
+    "requests=",
+    "operations=",
+    "blocks=",
+    "rest=",
+];
+
 /// What an audit found, as its verdict lines say it.
 #[derive(Clone, Copy, Debug, PartialEq, Eq)]
 pub struct Audited {
@@ -34,8 +43,7 @@ pub struct Audited {
     pub line: u64,
     pub requests: u64,
     pub operations: u64,
-    /// None of an output that was kept before there was a bill.
-    pub bill: Option<Bill>,
+    pub bill: Bill,
 }
 
 /// Operations by the hundred, as they are charged: whole hundreds, and what is left over.
@@ -58,33 +66,22 @@ impl Audited {
     /// Reads the verdict lines in front of what an audit printed, and gives what stands behind them with it. The bill is read and
     /// not made: one that does not add up is no bill.
     pub fn read(printed: &[u8]) -> Option<(Audited, &[u8])> {
-        let (audited, behind) = Audited::read_without_bill(printed)?;
-        let ([blocks, rest], behind) = numbers(behind, ["blocks=", "rest="])?;
+        let ([verdict, line, requests, operations, blocks, rest], behind) =
+            numbers(printed, VERDICT_LINES)?;
         let bill = Bill { blocks, rest };
-        let billed = Audited {
-            bill: Some(bill),
-            ..audited
-        };
-        (bill == Bill::of(audited.operations)).then_some((billed, behind))
-    }
-
-    /// The same of the four lines that were printed before there was a bill.
-    pub fn read_without_bill(printed: &[u8]) -> Option<(Audited, &[u8])> {
-        let ([verdict, line, requests, operations], behind) =
-            numbers(printed, ["verdict=", "line=", "requests=", "operations="])?;
         let audited = Audited {
             verdict,
             line,
             requests,
             operations,
-            bill: None,
+            bill,
         };
         // An accepted batch names no line, and of a refused one nothing is counted.
         let holds = match verdict {
             0 => line == 0,
             _ => requests == 0 && operations == 0,
         };
-        holds.then_some((audited, behind))
+        (holds && bill == Bill::of(operations)).then_some((audited, behind))
     }
 }
 
@@ -123,7 +120,8 @@ const VERDICTS: [Verdict; 16] = [
         text: None,
         example: "three empty texts",
         next: "Look at the counts: they are those of the batch you meant. A request left open never got its response: see that \
-the trace goes on to the end of the batch, and see to the instrument that lost power. Then the lane may be wiped.",
+the trace goes on to the end of the batch, and see to the instrument that lost power. A batch with no request in it is \
+accepted too, and ends in status 3: see where its texts went. On status 0 the lane may be wiped.",
     },
     Verdict {
         number: 1,
@@ -250,7 +248,7 @@ mod tests {
             line: 0,
             requests: 2,
             operations: 304,
-            bill: Some(Bill { blocks: 3, rest: 4 }),
+            bill: Bill { blocks: 3, rest: 4 },
         };
         let read = Audited::read(printed.as_bytes());
         assert_eq!(read, Some((audited, &b"event=1\n"[..])));
@@ -302,7 +300,7 @@ mod tests {
             (1_024, 10, 24),
             (u64::MAX, 184_467_440_737_095_516, 15),
         ] {
-            let bill = Some(Bill { blocks, rest });
+            let bill = Bill { blocks, rest };
             assert_eq!(read(operations, blocks, rest), Some(bill));
         }
         for (operations, blocks, rest) in [
@@ -333,7 +331,7 @@ mod tests {
         let bill = Bill { blocks: 0, rest: 0 };
         assert_eq!(
             read("requests=0\noperations=0\nblocks=0\nrest=0\n"),
-            Some(Some(bill))
+            Some(bill)
         );
         for lines in [
             "requests=0\noperations=4\nblocks=0\nrest=4\n",
@@ -344,14 +342,6 @@ mod tests {
         ] {
             assert_eq!(read(lines), None, "{lines}");
         }
-    }
-
-    #[test]
-    fn the_lines_from_before_there_was_a_bill() {
-        let printed = b"verdict=0\nline=0\nrequests=2\noperations=304\nevent=1\n";
-        let (read, behind) = Audited::read_without_bill(printed).unwrap();
-        assert_eq!((read.requests, read.operations), (2, 304));
-        assert_eq!((read.bill, behind), (None, &b"event=1\n"[..]));
     }
 
     #[test]

@@ -1,11 +1,11 @@
 //! The threads that look at the batches of a spool.
 
+use super::folder::{Prepared, Results};
 use super::progress::{Progress, INTERVAL};
-use super::results::{Prepared, Results};
-use super::time;
-use crate::findings::{Finding, State};
+use crate::findings::{Auditor, Finding, State, Wanted};
+use crate::kept::Kept;
 use crate::outcome::NotRun;
-use crate::proved::{Proved, STACK};
+use crate::proved::STACK;
 use crate::system;
 use crate::texts::{Missing, Texts, BATCH};
 use std::ffi::{OsStr, OsString};
@@ -18,10 +18,11 @@ use std::thread;
 const GROUP: usize = 64;
 
 /// What the threads share.
-struct Work<'a> {
+pub struct Work<'a> {
     spool: &'a Path,
     results: &'a Results,
     names: &'a [OsString],
+    wanted: Wanted,
     taken: AtomicUsize,
 }
 
@@ -32,32 +33,19 @@ struct Done {
 }
 
 /// Looks at each batch, so many at a time, and hands on what is found, until all are done or a signal stops it.
-pub fn run(
-    spool: &Path,
-    results: &Results,
-    names: &[OsString],
-    jobs: usize,
-    progress: &mut Progress,
-    mut take: impl FnMut(Finding),
-) {
-    let work = Work {
-        spool,
-        results,
-        names,
-        taken: AtomicUsize::new(0),
-    };
+pub fn run(work: &Work, jobs: usize, progress: &mut Progress, mut take: impl FnMut(Finding)) {
     let (sender, receiver) = mpsc::channel();
     thread::scope(|scope| {
         let mut started = 0;
-        for _ in 0..jobs.min(names.len()) {
-            let (work, sender) = (&work, sender.clone());
+        for _ in 0..jobs.min(work.names.len()) {
+            let sender = sender.clone();
             let thread = thread::Builder::new().stack_size(STACK);
             let thread = thread.spawn_scoped(scope, move || look_at_batches(work, &sender));
             started += usize::from(thread.is_ok());
         }
         if started == 0 {
             // No thread can be started: this one does the work.
-            look_at_batches(&work, &sender);
+            look_at_batches(work, &sender);
         }
         drop(sender);
         loop {
@@ -74,10 +62,10 @@ pub fn run(
 }
 
 fn look_at_batches(work: &Work, sender: &Sender<Done>) {
-    let mut proved = Proved::new();
+    let mut auditor = Auditor::new(work.wanted);
     let mut group = Vec::new();
     while let Some(name) = work.next() {
-        match work.look_at(name, &mut proved) {
+        match work.look_at(name, &mut auditor) {
             Ok(Found::Kept(finding)) => send(sender, finding, false),
             Ok(Found::Audited(finding, prepared)) => group.push((finding, prepared)),
             Err(why) => {
@@ -98,7 +86,22 @@ enum Found {
     Audited(Finding, Prepared),
 }
 
-impl Work<'_> {
+impl<'a> Work<'a> {
+    pub fn new(
+        spool: &'a Path,
+        results: &'a Results,
+        names: &'a [OsString],
+        wanted: Wanted,
+    ) -> Work<'a> {
+        Work {
+            spool,
+            results,
+            names,
+            wanted,
+            taken: AtomicUsize::new(0),
+        }
+    }
+
     /// The next batch that no thread has taken.
     fn next(&self) -> Option<&OsString> {
         if system::stopped() {
@@ -108,20 +111,14 @@ impl Work<'_> {
     }
 
     /// Audits a batch, or holds it against its kept result.
-    fn look_at(&self, name: &OsStr, proved: &mut Proved) -> Result<Found, NotRun> {
+    fn look_at(&self, name: &OsStr, auditor: &mut Auditor) -> Result<Found, NotRun> {
         let texts = Texts::read(&self.spool.join(name), &BATCH, Missing::NotRun)?;
-        if let Some(kept) = self.results.kept(name)? {
-            let finding = match texts.first_difference(&kept.texts) {
-                None => kept.finding(name),
-                Some(text) => {
-                    let why = format!("{} is not the text that was audited", text.file());
-                    Finding::none(name.to_owned(), State::Changed, why)
-                }
-            };
-            return Ok(Found::Kept(finding));
+        match Kept::read(&self.results.folder, name) {
+            Ok(None) => {}
+            Ok(Some(kept)) => return compared(name, &texts, &kept, auditor).map(Found::Kept),
+            Err(damage) => return Ok(Found::Kept(damage.finding(name.to_owned()))),
         }
-        let (mut finding, printed) = Finding::audit(name.to_owned(), &texts, proved)?;
-        finding.time = time::now();
+        let (finding, printed) = auditor.audit(name.to_owned(), &texts)?;
         let prepared = self.results.prepare(&finding, &texts, &printed);
         let prepared = prepared.map_err(|why| not_kept(&why))?;
         Ok(Found::Audited(finding, prepared))
@@ -145,6 +142,24 @@ impl Work<'_> {
             send(sender, finding, true);
         }
     }
+}
+
+/// What is found of a batch that has a kept result: what that says, where it counts and the texts are those that were audited.
+fn compared(
+    name: &OsStr,
+    texts: &Texts,
+    kept: &Kept,
+    auditor: &mut Auditor,
+) -> Result<Finding, NotRun> {
+    let finding = kept.finding(name, auditor)?;
+    let differs = texts.first_difference(&kept.texts);
+    Ok(match differs.filter(|_| finding.state != State::Damaged) {
+        None => finding,
+        Some(text) => {
+            let why = format!("{} is not the text that was audited", text.file());
+            Finding::none(name.to_owned(), State::Changed, why)
+        }
+    })
 }
 
 fn not_kept(why: &std::io::Error) -> NotRun {

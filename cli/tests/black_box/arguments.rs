@@ -6,12 +6,17 @@ use crate::run::{audit, program, record, Ended, Run, PROGRAM};
 use std::ffi::OsStr;
 use std::fs;
 use std::os::unix::ffi::OsStrExt;
+use std::path::Path;
 use std::process::Command;
 
 tests![
     help_of_the_program_and_every_command,
-    help_among_arguments_and_nothing_done,
+    help_is_asked_for_alone,
+    names_that_are_words_for_help,
+    help_by_its_own_command,
+    examples_in_every_help,
     nothing_at_all,
+    hints_for_mistyped_commands,
     unknown_commands,
     unknown_options,
     options_of_other_commands,
@@ -27,7 +32,14 @@ tests![
     bytes_that_are_not_utf8,
 ];
 
-pub const COMMANDS: [&str; 5] = ["audit", "order", "record", "audit-all", "explain"];
+pub const COMMANDS: [&str; 6] = [
+    "audit",
+    "order",
+    "record",
+    "audit-all",
+    "results",
+    "explain",
+];
 
 /// The program with these arguments, in a folder of its own, which it leaves as it is.
 #[track_caller]
@@ -77,25 +89,112 @@ fn help_of_the_program_and_every_command(room: &Room) -> Done {
     Ok(())
 }
 
-fn help_among_arguments_and_nothing_done(room: &Room) -> Done {
+/// Among other words it may be a name that was not meant as a question: nothing is printed, and nothing done.
+fn help_is_asked_for_alone(room: &Room) -> Done {
     let from = case_c();
     for arguments in [
         &["record", &from, "--help"][..],
         &["record", &from, "out", "--help"],
         &["record", "-h", &from, "out"],
         &["audit", &from, "--help"],
+        &["audit", "--json", "-h"],
+        &["audit", "--help", "--help"],
         &["order", &from, "--help"],
         &["audit-all", "--help", &from, "out"],
         &["audit-all", &from, "-h"],
+        &["results", "-h", "out"],
         &["explain", "3", "--help"],
+        &["--help", "audit"],
+        &["-h", "--version"],
+        &["--version", &from],
+        &["-V", "-V"],
+        &["help", "audit", "order"],
     ] {
-        let ended = untouched(room, arguments);
-        let usage = format!("usage: teaselshears {} ", arguments[0]);
-        assert!(
-            ended.is(0).text().starts_with(&usage),
-            "{arguments:?}: {ended}"
-        );
+        untouched(room, arguments).does_not_take("");
     }
+    Ok(())
+}
+
+/// A script that goes through the names of a folder meets one of these, and must not take the help's status for a verdict.
+fn names_that_are_words_for_help(room: &Room) -> Done {
+    let place = room.folder("place");
+    let within = |arguments: &[&str]| {
+        let mut program = Command::new(PROGRAM);
+        program.args(arguments).current_dir(&place).end()
+    };
+    let questions = |word: &'static str| {
+        let mut questions = vec![vec![word]];
+        if ["-h", "--help"].contains(&word) {
+            questions.extend(COMMANDS.map(|command| vec![command, word]));
+        }
+        questions
+    };
+    for word in ["-h", "--help", "-V", "--version", "help"] {
+        for question in questions(word) {
+            within(&question).is(0);
+        }
+        let make: [fn(&Path); 3] = [
+            |path| copy_folder(&example("case-c"), path),
+            |path| fs::write(path, "").unwrap(),
+            |path| std::os::unix::fs::symlink("nowhere", path).unwrap(),
+        ];
+        for make in make {
+            make(&place.join(word));
+            for question in questions(word) {
+                within(&question).does_not_take(word);
+            }
+            let _ =
+                fs::remove_dir_all(place.join(word)).or_else(|_| fs::remove_file(place.join(word)));
+        }
+    }
+    // The loop of a script, over a folder that is a refused batch.
+    room.batch("place/-h", "case-b");
+    let script = "for b in *; do \"$0\" audit \"$b\" && echo \"wiped $b\"; done; true";
+    let mut shell = Command::new("sh");
+    shell.args(["-c", script, PROGRAM]).current_dir(&place);
+    shell.end().is(0).printed("");
+    Ok(())
+}
+
+fn help_by_its_own_command(room: &Room) -> Done {
+    let program = untouched(room, &["--help"]);
+    untouched(room, &["help"]).is(0).printed(&program.stdout);
+    for command in COMMANDS {
+        let help = untouched(room, &[command, "--help"]);
+        untouched(room, &["help", command])
+            .is(0)
+            .printed(&help.stdout);
+    }
+    untouched(room, &["help", "adit"]).does_not_take("is 'audit' meant?");
+    untouched(room, &["help", "--help"]).does_not_take("");
+    Ok(())
+}
+
+fn examples_in_every_help(room: &Room) -> Done {
+    for command in COMMANDS {
+        let help = untouched(room, &["help", command]).text();
+        let (_, examples) = help.split_once("\nExamples:\n").expect("examples");
+        let named = format!("teaselshears {command} ");
+        let lines: Vec<&str> = examples.lines().collect();
+        assert_eq!(lines.len(), 2, "{help}");
+        assert!(lines.iter().all(|line| line.contains(&named)), "{help}");
+    }
+    Ok(())
+}
+
+fn hints_for_mistyped_commands(room: &Room) -> Done {
+    for (word, command) in [
+        ("adit", "audit"),
+        ("Audit", "audit"),
+        ("audit_all", "audit-all"),
+        ("recrod", "record"),
+        ("result", "results"),
+    ] {
+        let ended = untouched(room, &[word, &case_c()]);
+        ended.does_not_take(&format!("is '{command}' meant?"));
+    }
+    let ended = untouched(room, &["wipe", &case_c()]);
+    assert!(!ended.is(2).sentence().contains("meant"), "{ended}");
     Ok(())
 }
 
@@ -145,6 +244,9 @@ fn options_of_other_commands(room: &Room) -> Done {
     let from = case_c();
     untouched(room, &["audit", "--jobs", "2", &from]).does_not_take("--jobs");
     untouched(room, &["audit", "--list", "refused", &from]).does_not_take("--list");
+    untouched(room, &["audit", "--since", "2026-11-16", &from]).does_not_take("--since");
+    untouched(room, &["record", "--complete", &from, "out"]).does_not_take("--complete");
+    untouched(room, &["results", "--list", "refused", &from]).does_not_take("--list");
     untouched(room, &["order", "--json", &from]).does_not_take("--json");
     untouched(room, &["order", "-0", &from]).does_not_take("-0");
     untouched(room, &["record", "--json", &from, "out"]).does_not_take("--json");
@@ -166,7 +268,7 @@ fn too_few_and_too_many_arguments(room: &Room) -> Done {
         &["audit"][..],
         &["audit", "--"],
         &["audit", "--json"],
-        &["audit", &from, &from],
+        &["audit", "--complete"],
         &["order"],
         &["order", "--missing-as-empty"],
         &["order", &from, &from],
@@ -179,6 +281,8 @@ fn too_few_and_too_many_arguments(room: &Room) -> Done {
         &["audit-all", &from],
         &["audit-all", &from, "--jobs", "2"],
         &["audit-all", &from, "out", "more"],
+        &["results"],
+        &["results", &from, &from],
         &["explain"],
         &["explain", "1", "2"],
     ] {
@@ -197,6 +301,7 @@ fn empty_names(room: &Room) -> Done {
         &["record", &from, ""],
         &["audit-all", "", "out"],
         &["audit-all", &from, ""],
+        &["results", ""],
         &["explain", ""],
     ] {
         assert_eq!(

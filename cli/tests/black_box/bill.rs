@@ -137,9 +137,6 @@ fn no_bill_without_a_verdict(room: &Room) -> Done {
 fn help_says_what_is_charged(_: &Room) -> Done {
     let manual = String::from_utf8(read(root().join("cli/teaselshears.1"))).unwrap();
     let (audit, all, manual) = (help("audit"), help("audit-all"), flowing(&manual));
-    let earlier =
-        "It has no blocks and rest where that version printed none: they are empty in the table and null in JSON; \
-and no order where that version had none either. To have them, remove";
     for (text, part) in [
         (
             &audit,
@@ -148,14 +145,12 @@ and no order where that version had none either. To have them, remove";
         (&audit, "rest=N the operations left over, 0 to 99"),
         (&audit, "requests, operations, blocks, rest, open, order"),
         (&all, "requests, operations, blocks, rest, time"),
-        (&all, earlier),
         (
             &manual,
             "the whole hundreds of operations, by which they are charged",
         ),
         (&manual, "requests, operations, blocks, rest, open, order"),
         (&manual, "requests, operations, blocks, rest, time"),
-        (&manual, earlier),
     ] {
         assert!(text.contains(part), "{part}: {text}");
     }

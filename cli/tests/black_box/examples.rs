@@ -4,7 +4,7 @@ use crate::harness::{tests, Done, Skipped};
 use crate::json::{only_object, text, Object, Value};
 use crate::room::{
     audited_examples, check_recorded, example, examples, expected, expected_order, left_open,
-    names_in, read, Room,
+    names_in, read, state_of, Room, EMPTY,
 };
 use crate::run::{audit, program, proved_program, record, Run};
 use std::collections::BTreeSet;
@@ -110,12 +110,15 @@ fn audit_of_every_example(_: &Room) -> Done {
     for name in audited_examples() {
         let ended = audit(example(&name));
         ended.printed(expected(&name));
-        if number(&expected(&name), "verdict") == Some(0) {
-            let (counts, bill, open) = (counts(&name), bill(&name), open(&name));
-            let said = format!("accepted: {counts} ({bill}){open}");
-            assert_eq!(ended.is(0).sentence(), said);
-        } else {
-            check_refusal(&name, &ended.is(1).sentence());
+        let (state, status) = state_of(&name);
+        let sentence = ended.is(status).sentence();
+        match state {
+            "accepted" => {
+                let (counts, bill, open) = (counts(&name), bill(&name), open(&name));
+                assert_eq!(sentence, format!("accepted: {counts} ({bill}){open}"));
+            }
+            "empty" => assert_eq!(sentence, EMPTY),
+            _ => check_refusal(&name, &sentence),
         }
     }
     Ok(())
@@ -162,11 +165,7 @@ fn audit_in_json_of_every_example(_: &Room) -> Done {
         assert_eq!(ended.status, plain.status);
         assert_eq!(ended.said().len(), 0, "an object in place of both; {ended}");
         let object = only_object(&ended.stdout);
-        let state = if plain.status.success() {
-            "accepted"
-        } else {
-            "refused"
-        };
+        let (state, _) = state_of(&name);
         assert_eq!(object["batch"], text(folder.to_str().unwrap()));
         assert_eq!(object["state"], text(state));
         assert_eq!(object["sentence"], text(&plain.sentence()));
@@ -182,8 +181,8 @@ fn audit_in_json_of_every_example(_: &Room) -> Done {
             assert_eq!(object[key], Value::Number(number), "{key} of {name}");
         }
         let (open, order) = match state {
-            "accepted" => (left_open(&folder), Value::Lines(expected_order(&name))),
-            _ => (0, Value::Null),
+            "refused" => (0, Value::Null),
+            _ => (left_open(&folder), Value::Lines(expected_order(&name))),
         };
         assert_eq!(object["open"], Value::Number(open as u64), "{name}");
         assert_eq!(object["order"], order, "{name}");

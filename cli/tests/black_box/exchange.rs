@@ -1,14 +1,17 @@
-//! Texts that are exchanged, or moved away and back, while the program reads them: what it says is of what it read.
+//! Texts that are exchanged, or moved away and back, while the program reads them: what it says is of what it read, or that it
+//! changed meanwhile.
 
 use crate::harness::{tests, Done};
 use crate::results::rows;
 use crate::room::{check_recorded, example, expected, names, names_in, read, Room, TEXTS};
-use crate::run::{audit, audit_all, program, record, Run};
+use crate::run::{audit, audit_all, program, record, Ended, Run};
 use crate::traced::traced;
+use std::collections::BTreeSet;
 use std::fs;
 use std::path::Path;
 use std::sync::atomic::{AtomicBool, Ordering};
 use std::thread;
+use std::time::Duration;
 
 tests![
     a_report_that_is_exchanged_in_a_spool,
@@ -20,7 +23,7 @@ tests![
 ];
 
 /// Does `turn` over and over in a thread of its own while `work` runs.
-fn meanwhile<T>(turn: impl Fn() + Send, work: impl FnOnce() -> T) -> T {
+pub fn meanwhile<T>(turn: impl Fn() + Send, work: impl FnOnce() -> T) -> T {
     /// Ends the thread where `work` panics, too.
     struct Stop<'a>(&'a AtomicBool);
     impl Drop for Stop<'_> {
@@ -41,7 +44,8 @@ fn meanwhile<T>(turn: impl Fn() + Send, work: impl FnOnce() -> T) -> T {
     })
 }
 
-/// Exchanges a file for one version and the other, each by one rename, while `work` runs.
+/// Exchanges a file for one version and the other, each by one rename, while `work` runs; now and then it stays long enough to be
+/// read.
 fn while_exchanged<T>(
     room: &Room,
     file: &Path,
@@ -50,9 +54,10 @@ fn while_exchanged<T>(
 ) -> T {
     let spare = room.path("spare");
     let turn = || {
-        for version in versions {
+        for (number, version) in versions.into_iter().cycle().take(20).enumerate() {
             fs::write(&spare, version).unwrap();
             fs::rename(&spare, file).unwrap();
+            thread::sleep(Duration::from_millis(if number < 18 { 0 } else { 40 }));
         }
     };
     meanwhile(turn, work)
@@ -63,10 +68,26 @@ fn reports() -> [Vec<u8>; 2] {
     ["case-c", "case-b"].map(|name| read(example(name).join("report.txt")))
 }
 
-/// What is kept of the only batch belongs together, and is what the run said.
+/// A text changed while it was read, and nothing is said of the batch but that.
+fn is_changed(ended: &Ended) -> bool {
+    let said = ended.said();
+    let changed = said
+        .iter()
+        .any(|line| line.ends_with("changed while it was read"));
+    changed && ended.status.code() == Some(2) && ended.stdout.is_empty()
+}
+
+/// What is kept of the only batch belongs together, and is what the run said; or a text changed, and nothing is kept.
 #[track_caller]
 fn check_kept(results: &Path, ended: Option<i32>) {
     let kept = results.join("batches/batch-1");
+    if ended == Some(2) {
+        let row = rows(results).remove(0);
+        let sentence = "could not be run: report.txt changed while it was read";
+        assert_eq!((&*row.state, &*row.sentence), ("failed", sentence));
+        assert!(!kept.exists(), "nothing is kept");
+        return;
+    }
     let [good, bad] = reports();
     let report = read(kept.join("report.txt"));
     let (status, name) = if report == good {
@@ -118,7 +139,9 @@ fn a_report_that_is_exchanged_under_an_audit(room: &Room) -> Done {
             } else {
                 (1, "case-b")
             };
-            ended.is(status).printed(expected(name)).sentence();
+            if !is_changed(&ended) {
+                ended.is(status).printed(expected(name)).sentence();
+            }
         }
     });
     Ok(())
@@ -159,7 +182,7 @@ fn a_report_that_is_moved_away_and_back_and_may_be_missing(room: &Room) -> Done 
             let ended = program("audit").arg("--missing-as-empty").arg(&batch).end();
             match ended.status.code() {
                 // What is accepted is the empty text, and it says so.
-                Some(0) => ended
+                Some(3) => ended
                     .printed(expected("empty"))
                     .said_part("missing, and read as empty: report.txt"),
                 Some(1) => ended.printed(expected("refused-05-report-unreadable")),
@@ -177,7 +200,12 @@ fn programs_that_are_exchanged_under_a_record(room: &Room) -> Done {
     while_exchanged(room, &batch.join("programs.txt"), [others, &own], || {
         for number in 0..100 {
             let out = room.path(&format!("out-{number}"));
-            record(&batch, &out).is(0);
+            let ended = record(&batch, &out);
+            if is_changed(&ended) {
+                assert!(!out.exists(), "nothing is written");
+                continue;
+            }
+            ended.is(0);
             audit(&out).is(0);
             assert_eq!(names_in(&out), names(TEXTS));
             if read(out.join("programs.txt")) == own {
@@ -188,23 +216,33 @@ fn programs_that_are_exchanged_under_a_record(room: &Room) -> Done {
     Ok(())
 }
 
-/// The report is exchanged at every stop of a run, at every second, and so on: so that every two looks at it differ for some.
+/// The report is exchanged once, at each stop of a run: before the first look at it, between two, and behind the last.
 fn a_report_that_is_exchanged_between_system_calls(room: &Room) -> Done {
     let spool = room.spool("spool", "case-c", 1);
     let (report, spare) = (spool.join("batch-1/report.txt"), room.path("spare"));
     let mut versions = reports();
-    for (every, from) in (1..=12).flat_map(|every| (0..every).map(move |from| (every, from))) {
-        let results = room.path(&format!("results-{every}-{from}"));
+    let run = |results: &Path| {
         let mut program = program("audit-all");
-        program.args(["--jobs", "1"]).arg(&spool).arg(&results);
-        let ended = traced(&mut program, |stop, _| {
-            if stop % every == from {
+        program.args(["--jobs", "1"]).arg(&spool).arg(results);
+        program
+    };
+    let stops = traced(&mut run(&room.path("whole")), |_, _| {})?.stops;
+    let mut ends = BTreeSet::new();
+    for moment in 0..stops {
+        let results = room.path(&format!("results-{moment}"));
+        let ended = traced(&mut run(&results), |stop, _| {
+            if stop == moment {
                 fs::write(&spare, &versions[0]).unwrap();
                 fs::rename(&spare, &report).unwrap();
                 versions.swap(0, 1);
             }
         })?;
         check_kept(&results, ended.status.code());
+        ends.extend(ended.status.code());
     }
+    assert!(
+        ends.into_iter().eq([0, 1, 2]),
+        "it is each of these for some"
+    );
     Ok(())
 }

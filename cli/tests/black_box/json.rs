@@ -19,7 +19,8 @@ pub enum Value {
 pub type Object = BTreeMap<String, Value>;
 
 /// The keys that every object has.
-pub const KEYS: [&str; 16] = [
+pub const KEYS: [&str; 18] = [
+    "form",
     "batch",
     "state",
     "verdict",
@@ -33,6 +34,7 @@ pub const KEYS: [&str; 16] = [
     "open",
     "order",
     "sentence",
+    "time",
     "version",
     "library",
     "kit",
@@ -42,9 +44,28 @@ pub fn text(value: &str) -> Value {
     Value::Text(value.to_string())
 }
 
-/// The objects of what was printed, one a line, each with all keys and no other.
+/// The objects of what was printed, one a line, each with all keys and no other, in the form that has this number.
 #[track_caller]
 pub fn objects(printed: &[u8]) -> Vec<Object> {
+    objects_with(printed, &KEYS)
+}
+
+/// The same of objects without their orders.
+#[track_caller]
+pub fn brief_objects(printed: &[u8]) -> Vec<Object> {
+    let mut keys = KEYS.to_vec();
+    keys.retain(|key| *key != "order");
+    objects_with(printed, &keys)
+}
+
+/// An object without the time at which it was found.
+pub fn timeless(mut object: Object) -> Object {
+    object.remove("time");
+    object
+}
+
+#[track_caller]
+fn objects_with(printed: &[u8], keys: &[&str]) -> Vec<Object> {
     let printed = std::str::from_utf8(printed).expect("JSON is UTF-8");
     assert!(
         printed.is_empty() || printed.ends_with('\n'),
@@ -54,9 +75,10 @@ pub fn objects(printed: &[u8]) -> Vec<Object> {
         |line: &str| object(line).unwrap_or_else(|| panic!("not an object of JSON: {line:?}"));
     let objects: Vec<Object> = printed.split_terminator('\n').map(read).collect();
     for object in &objects {
-        let mut keys: Vec<&str> = KEYS.to_vec();
+        let mut keys: Vec<&str> = keys.to_vec();
         keys.sort_unstable();
         assert!(object.keys().eq(keys), "the keys of {object:?}");
+        assert_eq!(object["form"], Value::Number(1), "{object:?}");
     }
     objects
 }

@@ -2,7 +2,7 @@
 
 use crate::harness::{tests, Done, Skipped};
 use crate::results::{check_goes_on, until_kept};
-use crate::room::{check_recorded, example, names_in, Room};
+use crate::room::{check_recorded, example, names, names_in, Room};
 use crate::run::{audit_all, program, record};
 use crate::system::{kill, SIGKILL};
 use crate::traced::traced;
@@ -53,7 +53,7 @@ fn check_out(place: &Path) {
     }
 }
 
-/// The next run succeeds, whatever the killed one left.
+/// The next run succeeds, whatever the killed one left, and clears it away.
 #[track_caller]
 fn record_goes_on(place: &Path) {
     check_out(place);
@@ -61,7 +61,7 @@ fn record_goes_on(place: &Path) {
         .is(0)
         .printed("verdict=0\nline=0\n");
     check_recorded("case-c", &place.join("out"));
-    check_out(place);
+    assert_eq!(names_in(place), names(["out"]), "nothing is left for good");
 }
 
 /// How long a whole run takes, of five.

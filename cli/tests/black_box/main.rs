@@ -5,6 +5,7 @@
 
 mod arguments;
 mod bill;
+mod complete;
 mod csv;
 mod disk;
 mod environment;
@@ -16,7 +17,9 @@ mod install;
 mod json;
 mod kills;
 mod launcher;
+mod left;
 mod library;
+mod listed;
 mod many;
 mod open;
 mod order;
@@ -34,6 +37,7 @@ mod spool_stopped;
 mod streams;
 mod system;
 mod texts;
+mod torn;
 mod traced;
 mod unreadable;
 
@@ -46,6 +50,8 @@ fn main() -> ExitCode {
         kills::TESTS,
         spool_stopped::TESTS,
         exchange::TESTS,
+        torn::TESTS,
+        left::TESTS,
         spool::TESTS,
         examples::TESTS,
         arguments::TESTS,
@@ -54,6 +60,7 @@ fn main() -> ExitCode {
         order_answers::TESTS,
         bill::TESTS,
         open::TESTS,
+        complete::TESTS,
         texts::TESTS,
         unreadable::TESTS,
         streams::TESTS,
@@ -63,6 +70,7 @@ fn main() -> ExitCode {
         spool_changed::TESTS,
         spool_earlier::TESTS,
         spool_guards::TESTS,
+        listed::TESTS,
         many::TESTS,
         disk::TESTS,
         library::TESTS,

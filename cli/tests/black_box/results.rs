@@ -26,9 +26,11 @@ pub struct Row {
     pub time: String,
     pub sentence: String,
     pub open: String,
+    pub version: String,
+    pub library: String,
 }
 
-pub const HEADING: [&str; 11] = [
+pub const HEADING: [&str; 13] = [
     "batch",
     "state",
     "verdict",
@@ -40,6 +42,8 @@ pub const HEADING: [&str; 11] = [
     "time",
     "sentence",
     "open",
+    "version",
+    "library",
 ];
 
 /// The rows of the table below its heading.
@@ -48,7 +52,7 @@ pub fn rows(results: &Path) -> Vec<Row> {
     let mut records = csv::records(&read(results.join("table.csv"))).into_iter();
     assert_eq!(records.next().expect("a heading"), HEADING);
     let row = |record: Vec<String>| {
-        let [batch, state, verdict, line, requests, operations, blocks, rest, time, sentence, open] =
+        let [batch, state, verdict, line, requests, operations, blocks, rest, time, sentence, open, version, library] =
             record.try_into().unwrap();
         Row {
             batch,
@@ -62,6 +66,8 @@ pub fn rows(results: &Path) -> Vec<Row> {
             time,
             sentence,
             open,
+            version,
+            library,
         }
     };
     let rows: Vec<Row> = records.map(row).collect();
@@ -71,13 +77,18 @@ pub fn rows(results: &Path) -> Vec<Row> {
     rows
 }
 
-/// A row has a verdict, a bill and a number of open requests only where it is accepted or refused.
+/// A row has a verdict, a bill and a number of open requests only where it was audited, and always a time and a library.
 #[track_caller]
 fn check_row(row: &Row) {
+    assert!(is_time(&row.time), "{row:?}");
+    assert_eq!(row.library.len(), 64, "{row:?}");
     match row.state.as_str() {
-        "accepted" => assert_eq!((&*row.verdict, &*row.line), ("0", "0"), "{row:?}"),
+        "accepted" | "empty" | "open" => {
+            assert_eq!((&*row.verdict, &*row.line), ("0", "0"), "{row:?}");
+            assert_eq!(row.requests == "0", row.state == "empty", "{row:?}");
+        }
         "refused" => assert!(!matches!(&*row.verdict, "" | "0"), "{row:?}"),
-        "changed" | "failed" | "waiting" => {
+        "changed" | "outdated" | "damaged" | "failed" | "waiting" => {
             let numbers = [&row.verdict, &row.blocks, &row.rest, &row.open];
             assert_eq!(numbers, ["", "", "", ""], "{row:?}");
         }
@@ -141,6 +152,15 @@ fn is_time(time: &str) -> bool {
     time.bytes().map(shape).eq("0000-00-00T00:00:00Z".bytes()) && time >= "2024"
 }
 
+/// The same in a cell of the table, which is no formula.
+pub fn cell(name: &OsStr) -> String {
+    let shown = shown(name);
+    match shown.starts_with(['=', '+', '-', '@']) {
+        true => format!("\\x{:02x}{}", shown.as_bytes()[0], &shown[1..]),
+        false => shown,
+    }
+}
+
 /// A kept result is whole, and is of the batch: what was audited, and what the file `expected` beside it says.
 #[track_caller]
 pub fn check_kept(spool: &Path, results: &Path, name: &OsStr) {
@@ -168,7 +188,7 @@ pub fn check_kept(spool: &Path, results: &Path, name: &OsStr) {
     );
     assert!(is_time(&about(lines.as_bytes(), "time")), "{lines}");
     let word = if expected.starts_with(b"verdict=0\n") {
-        "accepted: "
+        "accepted"
     } else {
         "refused, verdict "
     };
@@ -213,7 +233,7 @@ fn check_row_of(results: &Path, name: &OsStr, rows: &[Row]) {
     // Hexadecimal digits may be of either case.
     let mut found = rows
         .iter()
-        .filter(|row| row.batch.eq_ignore_ascii_case(&shown(name)));
+        .filter(|row| row.batch.eq_ignore_ascii_case(&cell(name)));
     let row = found
         .next()
         .unwrap_or_else(|| panic!("no row for {name:?}: {rows:?}"));
@@ -226,19 +246,23 @@ fn check_row_of(results: &Path, name: &OsStr, rows: &[Row]) {
     let behind = output.strip_prefix(&said);
     // Behind the numbers stands the order, which the table does not have.
     assert!(
-        behind.is_some_and(|order| row.state == "accepted" || order.is_empty()),
+        behind.is_some_and(|order| row.verdict == "0" || order.is_empty()),
         "{row:?}: {output}"
     );
-    let open = match &*row.state {
-        "accepted" => left_open(&kept),
+    let open = match &*row.verdict {
+        "0" => left_open(&kept),
         _ => 0,
     };
     assert_eq!(row.open, open.to_string(), "{row:?}");
     let lines = read(kept.join("about"));
-    assert_eq!(
-        (&row.time, &row.sentence),
-        (&about(&lines, "time"), &about(&lines, "sentence"))
-    );
+    for (field, key) in [
+        (&row.time, "time"),
+        (&row.sentence, "sentence"),
+        (&row.version, "version"),
+        (&row.library, "library"),
+    ] {
+        assert_eq!(field, &about(&lines, key), "{key}");
+    }
 }
 
 /// The kept results with their inodes and times, by which one that was made again is seen.

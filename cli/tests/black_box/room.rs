@@ -103,6 +103,21 @@ pub fn expected(name: &str) -> Vec<u8> {
     read(example(name).join("expected"))
 }
 
+/// What is said of an accepted batch that has no request.
+pub const EMPTY: &str = "accepted, but with no request in it";
+
+/// The state of an example that is audited, and the status.
+pub fn state_of(name: &str) -> (&'static str, i32) {
+    let printed = expected(name);
+    if !printed.starts_with(b"verdict=0\n") {
+        return ("refused", 1);
+    }
+    match printed.starts_with(b"verdict=0\nline=0\nrequests=0\n") {
+        true => ("empty", 3),
+        false => ("accepted", 0),
+    }
+}
+
 /// The order that an example must be printed with, line by line; none where it is refused.
 pub fn expected_order(name: &str) -> Vec<String> {
     let printed = String::from_utf8(expected(name)).unwrap();

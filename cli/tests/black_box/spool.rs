@@ -1,10 +1,10 @@
 //! `audit-all` over whole spools: every example, a second run, JSON and lists, many batches.
 
 use crate::harness::{tests, Done};
-use crate::json::{objects, only_object, text, Object, Value};
+use crate::json::{brief_objects, objects, only_object, text, timeless, Object, Value};
 use crate::results::{check_all_kept, check_stays, kept, row, states};
 use crate::room::{
-    audited_examples, copy_folder, example, expected, expected_order, names_in, read, Room,
+    audited_examples, copy_folder, example, expected_order, names_in, read, state_of, Room,
 };
 use crate::run::{audit, audit_all, needs, program, Run, PROGRAM};
 use std::collections::BTreeMap;
@@ -18,7 +18,9 @@ tests![
     a_second_run,
     jobs_make_no_difference,
     json_of_every_batch,
+    json_without_the_orders,
     lists_of_names,
+    lists_of_names_that_are_gone,
     batches_that_come_later,
     batches_that_are_taken_away,
     names_that_begin_with_a_dot,
@@ -36,15 +38,16 @@ fn example_spool(room: &Room) -> PathBuf {
     spool
 }
 
-fn is_accepted(name: &str) -> bool {
-    expected(name).starts_with(b"verdict=0\n")
+/// The examples that have a state.
+fn examples_that_are(state: &str) -> Vec<String> {
+    let mut names = audited_examples();
+    names.retain(|name| state_of(name).0 == state);
+    names
 }
 
-/// How many of the examples are accepted, and how many refused.
-fn example_counts() -> (usize, usize) {
-    let names = audited_examples();
-    let accepted = names.iter().filter(|name| is_accepted(name)).count();
-    (accepted, names.len() - accepted)
+/// The examples that a run says something of each time.
+fn examples_to_see_to() -> Vec<String> {
+    [examples_that_are("empty"), examples_that_are("refused")].concat()
 }
 
 fn every_example(room: &Room) -> Done {
@@ -52,10 +55,11 @@ fn every_example(room: &Room) -> Done {
     let ended = audit_all(&spool, &results);
     let said = ended.is(1).printed("").said();
     check_all_kept(&spool, &results);
-    let (accepted, refused) = example_counts();
-    let all = accepted + refused;
+    let [accepted, empty, refused] =
+        ["accepted", "empty", "refused"].map(|state| examples_that_are(state).len());
+    let all = audited_examples().len();
     let counts = format!(
-        "of {all} in the spool: {accepted} accepted, {refused} refused, 0 changed, 0 failed"
+        "of {all} in the spool: {accepted} accepted, {empty} empty, {refused} refused, 0 changed, 0 failed"
     );
     assert_eq!(said.last(), Some(&counts), "the counts are the last line");
     assert_eq!(said.len(), all + 1, "a line for each batch; {ended}");
@@ -75,15 +79,14 @@ fn a_second_run(room: &Room) -> Done {
     assert_eq!(read(results.join("table.csv")), table, "the same table");
     check_all_kept(&spool, &results);
     let said = ended.is(1).said();
-    let refused = |name: &String| !is_accepted(name);
-    for name in audited_examples().into_iter().filter(refused) {
+    for name in examples_to_see_to() {
         let line = format!("{name}: {}", audit(example(&name)).sentence());
         assert!(said.contains(&line), "{line}; {ended}");
     }
     assert_eq!(
         said.len(),
-        example_counts().1 + 1,
-        "those that are refused, and the counts; {ended}"
+        examples_to_see_to().len() + 1,
+        "those that are not accepted, and the counts; {ended}"
     );
     Ok(())
 }
@@ -144,8 +147,28 @@ fn json_of_every_batch(room: &Room) -> Done {
             let alone = program("audit").arg("--json").arg(spool.join(&name)).end();
             let mut alone = only_object(&alone.stdout);
             alone.insert("batch".to_string(), text(&name));
-            assert_eq!(object, alone, "as of audit --json");
+            assert_eq!(timeless(object), timeless(alone), "as of audit --json");
         }
+    }
+    Ok(())
+}
+
+fn json_without_the_orders(room: &Room) -> Done {
+    let (spool, results) = (room.spool("spool", "case-c", 2), room.path("results"));
+    let mut run = program("audit-all");
+    run.args(["--json", "--brief"]).arg(&spool).arg(&results);
+    assert_eq!(brief_objects(&run.end().is(0).stdout).len(), 2);
+    let mut one = program("audit");
+    one.args(["--json", "--brief"]).arg(spool.join("batch-1"));
+    let object = brief_objects(&one.end().is(0).stdout).remove(0);
+    assert_eq!(object["operations"], Value::Number(4));
+    for command in [
+        &["audit", "--brief", "x"][..],
+        &["audit-all", "--brief", "x", "y"],
+        &["results", "--brief", "x"],
+    ] {
+        let mut program = program(command[0]);
+        program.args(&command[1..]).end().does_not_take("--brief");
     }
     Ok(())
 }
@@ -173,10 +196,10 @@ fn lists_of_names(room: &Room) -> Done {
     audit_all(&spool, &results).is(1);
     fs::write(spool.join("case-c/report.txt"), "").unwrap();
     fs::create_dir(spool.join("nothing")).unwrap();
-    let refused = |name: &String| !is_accepted(name);
-    let refused: Vec<String> = audited_examples().into_iter().filter(refused).collect();
+    let refused = examples_that_are("refused");
     for zero in [false, true] {
         assert_eq!(listed("refused", zero, &spool, &results), refused);
+        assert_eq!(listed("empty", zero, &spool, &results), ["empty"]);
         assert_eq!(listed("changed", zero, &spool, &results), ["case-c"]);
         assert_eq!(listed("failed", zero, &spool, &results), ["nothing"]);
     }
@@ -192,6 +215,21 @@ fn lists_of_names(room: &Room) -> Done {
     };
     list("refused").is(0).printed("");
     list("failed").is(0).printed("");
+    Ok(())
+}
+
+/// A list is of every row of the table: of batches that are in the spool no longer, too.
+fn lists_of_names_that_are_gone(room: &Room) -> Done {
+    let (spool, results) = (room.spool("spool", "case-c", 1), room.path("results"));
+    room.batch("spool/bad", "case-b");
+    audit_all(&spool, &results).is(1);
+    fs::remove_dir_all(spool.join("bad")).unwrap();
+    let mut program = program("audit-all");
+    program
+        .args(["--list", "refused"])
+        .arg(&spool)
+        .arg(&results);
+    program.end().is(0).printed("bad\n");
     Ok(())
 }
 

@@ -1,4 +1,4 @@
-//! Batches that fail, batches that change, and kept results that are damaged: none of them is ever accepted.
+//! Batches that fail, batches that change, and kept results that are damaged or written over: none of them is ever accepted.
 
 use crate::bill::WRONG_BILLS;
 use crate::harness::{tests, Done};
@@ -23,6 +23,9 @@ tests![
     a_kept_result_whose_bill_is_damaged,
     a_kept_result_that_lacks_a_file,
     a_kept_result_with_another_text,
+    an_accepting_output_over_a_refusing_one,
+    new_texts_over_the_kept_ones,
+    a_kept_sentence_is_not_taken_at_its_word,
     a_kept_result_that_is_a_file,
 ];
 
@@ -156,17 +159,17 @@ fn a_changed_batch_that_is_audited_again(room: &Room) -> Done {
 fn a_batch_that_changes_in_each_text(room: &Room) -> Done {
     let (spool, results) = (room.folder("spool"), room.path("results"));
     let batch = room.batch("spool/batch", "empty");
-    audit_all(&spool, &results).is(0);
+    audit_all(&spool, &results).is(3);
     for text in TEXTS {
         let path = batch.join(text);
         fs::write(&path, "x").unwrap();
         audit_all(&spool, &results).is(2);
         assert_eq!(row(&results, "batch").state, "changed", "{text}");
         fs::write(&path, "").unwrap();
-        audit_all(&spool, &results).is(0);
+        audit_all(&spool, &results).is(3);
     }
     fs::write(batch.join("programs.txt"), "program=0\ndo=0,0,0,0\n").unwrap();
-    audit(&batch).is(0);
+    audit(&batch).is(3);
     audit_all(&spool, &results).is(2);
     assert_eq!(row(&results, "batch").state, "changed");
     Ok(())
@@ -218,14 +221,15 @@ fn a_refused_batch_that_becomes_good(room: &Room) -> Done {
     Ok(())
 }
 
-/// A damaged result is said, is failed, and is left for staff to look at; once removed it is made again.
+/// A damaged result is said and is left for staff to look at; once removed it is made again.
 #[track_caller]
 fn damaged(spool: &Path, results: &Path, batch: &str) {
     let before = tree(&results.join("batches"));
     let ended = audit_all(spool, results);
-    counted(ended.is(2), "2 accepted, 0 refused, 0 changed, 1 failed");
-    assert_eq!(row(results, batch).state, "failed");
-    ended.said_part(&format!("{batch}: "));
+    let counts = "2 accepted, 0 refused, 0 changed, 1 damaged, 0 failed";
+    counted(ended.is(2), counts);
+    assert_eq!(row(results, batch).state, "damaged");
+    ended.said_part(&format!("{batch}: its kept result is damaged: "));
     let after = tree(&results.join("batches"));
     assert!(
         before.keys().all(|path| after.contains_key(path)),
@@ -304,7 +308,61 @@ fn a_kept_result_with_another_text(room: &Room) -> Done {
     let (spool, results) = kept_spool(room);
     let report = results.join("batches/batch-3/report.txt");
     fs::write(&report, read(example("case-b").join("report.txt"))).unwrap();
-    changed_or_failed(&spool, &results, "batch-3");
+    damaged(&spool, &results, "batch-3");
+    Ok(())
+}
+
+/// Verdict lines of an accepted batch over those of a refused one, with its order and without, in a run that follows and where
+/// the batch is no longer in the spool.
+fn an_accepting_output_over_a_refusing_one(room: &Room) -> Done {
+    let accepting = read(example("case-c").join("expected"));
+    for (number, output) in [&accepting[..], EARLIEST.as_bytes(), with_order().as_bytes()]
+        .into_iter()
+        .enumerate()
+    {
+        let spool = room.spool(&format!("spool-{number}"), "case-b", 1);
+        let results = room.path(&format!("results-{number}"));
+        audit_all(&spool, &results).is(1);
+        fs::write(results.join("batches/batch-1/output"), output).unwrap();
+        let ended = audit_all(&spool, &results);
+        let counts = "0 accepted, 0 refused, 0 changed, 1 damaged, 0 failed";
+        counted(ended.is(2), counts);
+        assert_eq!(row(&results, "batch-1").state, "damaged");
+        fs::rename(spool.join("batch-1"), spool.join(".batch-1")).unwrap();
+        audit_all(&spool, &results).is(2);
+        assert_eq!(row(&results, "batch-1").state, "damaged");
+    }
+    Ok(())
+}
+
+/// The texts of a changed batch over those that were kept: its output is of the others.
+fn new_texts_over_the_kept_ones(room: &Room) -> Done {
+    let (spool, results) = kept_spool(room);
+    let report = read(example("case-b").join("report.txt"));
+    fs::write(spool.join("batch-1/report.txt"), &report).unwrap();
+    audit_all(&spool, &results).is(2);
+    assert_eq!(row(&results, "batch-1").state, "changed");
+    fs::write(results.join("batches/batch-1/report.txt"), &report).unwrap();
+    let ended = audit_all(&spool, &results);
+    let counts = "2 accepted, 0 refused, 0 changed, 1 damaged, 0 failed";
+    counted(ended.is(2), counts);
+    Ok(())
+}
+
+/// What is said of a batch is of its texts, whatever was written over the kept sentence.
+fn a_kept_sentence_is_not_taken_at_its_word(room: &Room) -> Done {
+    let (spool, results) = (room.spool("spool", "case-b", 1), room.path("results"));
+    audit_all(&spool, &results).is(1);
+    let path = results.join("batches/batch-1/about");
+    let about = String::from_utf8(read(&path)).unwrap();
+    let (front, sentence) = about.split_once("sentence=").unwrap();
+    fs::write(&path, format!("{front}sentence=accepted: 2 requests\n")).unwrap();
+    audit_all(&spool, &results).is(1);
+    let row = row(&results, "batch-1");
+    assert_eq!(
+        (&*row.state, &*row.sentence),
+        ("refused", sentence.trim_end())
+    );
     Ok(())
 }
 

@@ -1,9 +1,10 @@
 //! Names of every sort in a spool: each batch is kept under its own, and table, list and JSON say which it is.
 
+use crate::csv;
 use crate::harness::{tests, Done, Skipped};
 use crate::json::{objects, text, Value};
 use crate::results::{batches, check_all_kept, rows, shown, HEADING};
-use crate::room::{copy_folder, example, names_in, Room};
+use crate::room::{copy_folder, example, names_in, read, Room};
 use crate::run::{audit_all, needs, program, Ended, Run};
 use std::collections::BTreeSet;
 use std::ffi::{OsStr, OsString};
@@ -14,6 +15,7 @@ use std::process::Command;
 tests![
     names_are_kept_and_shown,
     names_as_promised,
+    no_cell_is_a_formula,
     names_in_lists,
     names_in_json,
     the_table_as_python_reads_it,
@@ -104,7 +106,8 @@ fn names_as_promised(room: &Room) -> Done {
     audit_all(&spool, &results).is(1);
     let names: BTreeSet<String> = rows(&results).into_iter().map(|row| row.batch).collect();
     for name in [
-        "-dash",
+        "\\x2ddash",
+        "\\x3d1+1",
         "two words",
         "K\u{e4}se",
         "\u{65e5}\u{672c}",
@@ -123,6 +126,23 @@ fn names_as_promised(room: &Room) -> Done {
         let found = names.iter().any(|shown| shown.eq_ignore_ascii_case(name));
         assert!(found, "{name} is in {names:?}");
     }
+    Ok(())
+}
+
+/// A spreadsheet takes what begins with one of four characters for a formula, between quotes too.
+fn no_cell_is_a_formula(room: &Room) -> Done {
+    let (spool, results) = (spool_of_names(room), room.path("results"));
+    for name in ["+1", "@SUM(1)", "=cmd|'-C calc'!A0", "-2+3,4", "=\"1\""] {
+        copy_folder(&example("case-b"), &spool.join(name));
+    }
+    audit_all(&spool, &results).is(1);
+    let table = csv::records(&read(results.join("table.csv")));
+    assert_eq!(table.len(), 38);
+    for field in table.iter().flatten() {
+        assert!(!field.starts_with(['=', '+', '-', '@']), "{field}");
+    }
+    let names: BTreeSet<&str> = table.iter().map(|record| &*record[0]).collect();
+    assert_eq!(names.len(), 38, "no two look alike");
     Ok(())
 }
 
@@ -157,7 +177,7 @@ fn names_in_lists(room: &Room) -> Done {
         .iter()
         .map(|name| shown(name).to_ascii_lowercase())
         .collect();
-    assert_eq!(lines, wanted, "as the table shows them");
+    assert_eq!(lines, wanted, "each as it is shown");
     Ok(())
 }
 

@@ -2,7 +2,7 @@
 
 use crate::harness::{tests, Done};
 use crate::json::{only_object, text, Value};
-use crate::room::{check_recorded, example, expected, Room, TEXTS};
+use crate::room::{check_recorded, example, expected, Room, EMPTY, TEXTS};
 use crate::run::{audit, audit_all, needs, program, record, Ended, Run};
 use std::fs::{self, File};
 use std::os::unix::fs::symlink;
@@ -62,9 +62,8 @@ fn a_missing_text_that_is_read_as_empty(room: &Room) -> Done {
         let batch = room.batch(&format!("empty-{missing}"), "empty");
         fs::remove_file(batch.join(missing)).unwrap();
         let ended = with_missing_as_empty(&batch);
-        let counts = "accepted: 0 requests, 0 operations (0 blocks, rest 0)";
-        let said = format!("{counts}; missing, and read as empty: {missing}");
-        assert_eq!(ended.is(0).printed(expected("empty")).sentence(), said);
+        let said = format!("{EMPTY}; missing, and read as empty: {missing}");
+        assert_eq!(ended.is(3).printed(expected("empty")).sentence(), said);
     }
     for (missing, like, place) in [
         (
@@ -94,7 +93,7 @@ fn several_missing_texts_that_are_read_as_empty(room: &Room) -> Done {
     fs::remove_file(batch.join("trace.txt")).unwrap();
     fs::remove_file(batch.join("report.txt")).unwrap();
     let ended = with_missing_as_empty(&batch);
-    let sentence = ended.is(0).printed(expected("empty")).sentence();
+    let sentence = ended.is(3).printed(expected("empty")).sentence();
     let (_, missing) = sentence
         .split_once("missing, and read as empty: ")
         .expect("it is said");
@@ -128,7 +127,7 @@ fn a_missing_text_of_a_record_that_is_read_as_empty(room: &Room) -> Done {
         .printed("verdict=0\nline=0\n")
         .said_part("0 requests, 0 operations");
     ended.said_part("missing, and read as empty: schedule.txt");
-    audit(room.path("out")).is(0).printed(expected("empty"));
+    audit(room.path("out")).is(3).printed(expected("empty"));
     Ok(())
 }
 

@@ -12,6 +12,13 @@ use std::ptr;
 const TRACE_ME: i64 = 0;
 const GO_TO_CALL: i64 = 24;
 const SET_OPTIONS: i64 = 0x4200;
+const GET_REGISTERS: i64 = 12;
+const SET_REGISTERS: i64 = 13;
+/// The registers of x86-64 as ptrace has them, where a call's number stands among them, and where its result.
+const REGISTERS: usize = 27;
+const CALL: usize = 15;
+const RESULT: usize = 10;
+const READ: u64 = 0;
 /// A stop at a call is told from others, threads are traced too, and all end with this program.
 const OPTIONS: usize = 1 | 8 | 0x10_0000;
 /// Of this thread's own children alone, and their threads.
@@ -29,6 +36,34 @@ pub struct Traced {
 
 /// Runs a command to its end, and calls `at` at each stop with its number and the process. Nobody hears what it prints.
 pub fn traced(command: &mut Command, mut at: impl FnMut(usize, u32)) -> Result<Traced, Skipped> {
+    followed(command, |stop, pid, _| at(stop, pid as u32))
+}
+
+/// Runs a command to its end, with every read of a file ended at once, as if the file had no more bytes.
+pub fn end_of_file(command: &mut Command) -> Result<Traced, Skipped> {
+    followed(command, |_, _, thread| {
+        let mut registers = [0u64; REGISTERS];
+        move_registers(GET_REGISTERS, thread, &mut registers);
+        // Before a call its result is set to "no such call".
+        let behind = registers[RESULT] as i64 != -38;
+        if registers[CALL] == READ && behind {
+            registers[RESULT] = 0;
+            move_registers(SET_REGISTERS, thread, &mut registers);
+        }
+    })
+}
+
+fn move_registers(request: i64, thread: c_int, registers: &mut [u64; REGISTERS]) {
+    let place = registers.as_mut_ptr().cast::<c_void>();
+    // SAFETY: there is room for all registers of x86-64; a request to a thread that is gone does nothing.
+    unsafe { ptrace(request, thread, ptr::null_mut(), place) };
+}
+
+/// Runs a command to its end, and calls `at` at each stop with its number, the process, and the thread that stopped.
+fn followed(
+    command: &mut Command,
+    mut at: impl FnMut(usize, c_int, c_int),
+) -> Result<Traced, Skipped> {
     let pid = begun(command)?;
     let (mut stops, mut ended) = (0, None);
     while let Some((who, status)) = wait() {
@@ -37,7 +72,7 @@ pub fn traced(command: &mut Command, mut at: impl FnMut(usize, u32)) -> Result<T
             continue;
         };
         if signal == STOP_AT_CALL {
-            at(stops, pid as u32);
+            at(stops, pid, who);
             stops += 1;
         }
         // Stops of the tracing itself are no signals to hand on.

@@ -197,7 +197,7 @@ fn texts_without_permission(room: &Room) -> Done {
         command_as_another(room, "audit")?
             .arg(&batch)
             .end()
-            .is(0)
+            .is(3)
             .printed(expected("empty"));
     }
     Ok(())
@@ -262,7 +262,7 @@ fn folders_without_permission(room: &Room) -> Done {
             .could_not("");
     }
     set_mode(&batch, 0o755);
-    audit(&batch).is(0);
+    audit(&batch).is(3);
     Ok(())
 }
 

@@ -1,12 +1,12 @@
 //! The folder that keeps results: one at a time works on it, and what is in it is whole.
 
-use crate::answer::Answer;
-use crate::findings::{Finding, Program};
+use crate::findings::Finding;
+use crate::kept::{self, MARK, MARKER};
 use crate::outcome::NotRun;
 use crate::shown;
 use crate::system;
-use crate::texts::{self, Missing, Texts, BATCH};
-use std::ffi::{OsStr, OsString};
+use crate::texts::{self, Texts};
+use std::ffi::OsString;
 use std::fs::{self, File, OpenOptions};
 use std::io::{self, Read, Write};
 use std::os::unix::fs::MetadataExt;
@@ -15,16 +15,12 @@ use std::sync::atomic::{AtomicUsize, Ordering};
 use std::thread;
 use std::time::{Duration, Instant};
 
-/// The file by which a folder is known as one of these, and what it says. It is the lock too.
-const MARKER: &str = ".teaselshears";
-const MARK: &[u8] = b"teaselshears results 1\n";
 /// How long a run waits for another.
 const PATIENCE: Duration = Duration::from_secs(3);
-/// More than a kept output or the words about it have.
-const KEPT_LIMIT: u64 = 1 << 20;
 
 pub struct Results {
-    folder: PathBuf,
+    pub folder: PathBuf,
+    /// The marker, which is the lock too.
     lock: File,
     prepared: AtomicUsize,
 }
@@ -33,13 +29,6 @@ pub struct Results {
 pub struct Prepared {
     at: PathBuf,
     name: OsString,
-}
-
-/// A result that was kept.
-pub struct Kept {
-    pub texts: Texts,
-    answer: Answer,
-    about: About,
 }
 
 impl Results {
@@ -70,46 +59,11 @@ impl Results {
             _ => {}
         }
         fs::create_dir(&working)?;
-        fs::create_dir_all(self.batches())
+        fs::create_dir_all(kept::batches(&self.folder))
     }
 
     fn working(&self) -> PathBuf {
         self.folder.join(".working")
-    }
-
-    fn batches(&self) -> PathBuf {
-        self.folder.join("batches")
-    }
-
-    /// The names that have a result.
-    pub fn names(&self) -> Result<Vec<OsString>, NotRun> {
-        texts::names_in(&self.batches())
-            .map_err(|why| NotRun(format!("the kept results cannot be read: {why}")))
-    }
-
-    /// The result that was kept of a name, if any.
-    pub fn kept(&self, name: &OsStr) -> Result<Option<Kept>, NotRun> {
-        let path = self.batches().join(name);
-        let folder = match system::open_folder(&path) {
-            Err(why) if why.kind() == io::ErrorKind::NotFound => return Ok(None),
-            Err(why) => return Err(damaged(&why)),
-            Ok(folder) => folder,
-        };
-        let file = |name| match texts::read_file(&folder, name, KEPT_LIMIT) {
-            Ok(bytes) => bytes.ok_or_else(|| damaged(&"a file is not there")),
-            Err(NotRun(why)) => Err(damaged(&why)),
-        };
-        let texts =
-            Texts::read(&path, &BATCH, Missing::NotRun).map_err(|NotRun(why)| damaged(&why))?;
-        let answer = Answer::read_kept(&file(c"output")?, &texts)
-            .map_err(|what| damaged(&format!("output is {what}")))?;
-        let about = About::read(&file(c"about")?)
-            .ok_or_else(|| damaged(&"about is not as it was written"))?;
-        Ok(Some(Kept {
-            texts,
-            answer,
-            about,
-        }))
     }
 
     /// Writes a result to a folder of its own.
@@ -122,11 +76,7 @@ impl Results {
         let number = self.prepared.fetch_add(1, Ordering::Relaxed);
         let at = self.working().join(number.to_string());
         fs::create_dir(&at)?;
-        for text in BATCH {
-            fs::write(at.join(text.file()), texts.bytes(text))?;
-        }
-        fs::write(at.join("output"), printed)?;
-        fs::write(at.join("about"), About::of(finding).text())?;
+        kept::write(&at, finding, texts, printed)?;
         let name = finding.batch.clone();
         Ok(Prepared { at, name })
     }
@@ -138,7 +88,10 @@ impl Results {
 
     /// Puts a result to its place.
     pub fn keep(&self, prepared: &Prepared) -> io::Result<()> {
-        fs::rename(&prepared.at, self.batches().join(&prepared.name))
+        fs::rename(
+            &prepared.at,
+            kept::batches(&self.folder).join(&prepared.name),
+        )
     }
 
     /// Puts the table in the place of the last one, and ends the work on the folder.
@@ -151,22 +104,6 @@ impl Results {
             .and_then(|()| fs::remove_dir_all(self.working()));
         kept.map_err(|why| NotRun(format!("table.csv cannot be written: {why}")))
     }
-}
-
-impl Kept {
-    /// What was found of the batch.
-    pub fn finding(&self, name: &OsStr) -> Finding {
-        Finding {
-            sentence: self.about.sentence.clone(),
-            program: self.about.program.clone(),
-            time: self.about.time.clone(),
-            ..Finding::read(name.to_owned(), self.answer.clone(), &self.texts)
-        }
-    }
-}
-
-fn damaged(why: &dyn std::fmt::Display) -> NotRun {
-    NotRun(format!("its kept result is damaged: {why}"))
 }
 
 /// The real path of a folder whose last parts may not be there yet.
@@ -239,52 +176,5 @@ fn locked(folder: &Path) -> io::Result<File> {
         false => Err(io::Error::other(
             "it was made by another version of this program",
         )),
-    }
-}
-
-/// What is kept of a result beside its texts and its output.
-struct About {
-    time: String,
-    program: Program,
-    sentence: String,
-}
-
-impl About {
-    fn of(finding: &Finding) -> About {
-        About {
-            time: finding.time.clone(),
-            program: finding.program.clone(),
-            sentence: finding.sentence.clone(),
-        }
-    }
-
-    fn text(&self) -> String {
-        let About { time, sentence, .. } = self;
-        let Program {
-            version,
-            library,
-            kit,
-        } = &self.program;
-        format!(
-            "time={time}\nversion={version}\nlibrary={library}\nkit={kit}\nsentence={sentence}\n"
-        )
-    }
-
-    fn read(bytes: &[u8]) -> Option<About> {
-        let text = std::str::from_utf8(bytes).ok()?;
-        let mut lines = text.strip_suffix('\n')?.split('\n');
-        let mut value = |word: &str| Some(lines.next()?.strip_prefix(word)?.to_owned());
-        let time = value("time=")?;
-        let program = Program {
-            version: value("version=")?,
-            library: value("library=")?,
-            kit: value("kit=")?,
-        };
-        let sentence = value("sentence=")?;
-        lines.next().is_none().then_some(About {
-            time,
-            program,
-            sentence,
-        })
     }
 }

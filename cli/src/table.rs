@@ -1,0 +1,144 @@
+//! The table of results: what a run of `audit-all` found of each batch, in CSV, for staff and for `results`.
+
+use crate::csv;
+use crate::findings::{Finding, Program, State};
+use crate::shown;
+use std::ffi::{OsStr, OsString};
+
+/// The file that it stands in.
+pub const FILE: &str = "table.csv";
+
+/// New columns stand at the end, so that whoever reads by places finds the others where they were.
+const HEADING: [&str; 13] = [
+    "batch",
+    "state",
+    "verdict",
+    "line",
+    "requests",
+    "operations",
+    "blocks",
+    "rest",
+    "time",
+    "sentence",
+    "open",
+    "version",
+    "library",
+];
+
+/// A heading, and a row for each.
+pub fn text<'a>(findings: impl Iterator<Item = &'a Finding>) -> String {
+    csv::record(HEADING) + &findings.map(row).collect::<String>()
+}
+
+fn row(finding: &Finding) -> String {
+    let number = |number: Option<u64>| number.map_or(String::new(), |number| number.to_string());
+    let audited = finding.audited;
+    let fields: [String; HEADING.len()] = [
+        shown::cell(&finding.batch),
+        finding.state.word().to_owned(),
+        number(audited.map(|audited| audited.verdict)),
+        number(audited.map(|audited| audited.line)),
+        number(audited.map(|audited| audited.requests)),
+        number(audited.map(|audited| audited.operations)),
+        number(audited.map(|audited| audited.bill.blocks)),
+        number(audited.map(|audited| audited.bill.rest)),
+        finding.time.clone(),
+        finding.sentence.clone(),
+        number(finding.open),
+        finding.program.version.clone(),
+        finding.program.library.clone(),
+    ];
+    csv::record(fields.iter().map(String::as_str))
+}
+
+/// A row as it was written, by the words of its heading; what a version without a column left out is empty.
+pub struct Row {
+    pub batch: OsString,
+    pub state: State,
+    time: String,
+    sentence: String,
+    version: String,
+    library: String,
+}
+
+/// The rows of a table; none where it is not one.
+pub fn rows(table: &[u8]) -> Option<Vec<Row>> {
+    let mut records = csv::records(std::str::from_utf8(table).ok()?)?.into_iter();
+    let heading = records.next()?;
+    let row = |fields: Vec<String>| {
+        let field = |word: &str| {
+            let place = heading.iter().position(|column| column == word);
+            place.and_then(|place| fields.get(place)).cloned()
+        };
+        Some(Row {
+            batch: shown::name_shown_as(&field("batch")?)?,
+            state: State::named(OsStr::new(&field("state")?))?,
+            time: field("time")?,
+            sentence: field("sentence")?,
+            version: field("version").unwrap_or_default(),
+            library: field("library").unwrap_or_default(),
+        })
+    };
+    records.map(row).collect()
+}
+
+impl Row {
+    /// A row without a verdict as it was found.
+    pub fn finding(self) -> Finding {
+        let program = Program {
+            version: self.version,
+            library: self.library,
+            kit: String::new(),
+        };
+        Finding {
+            program,
+            time: self.time,
+            ..Finding::none(self.batch, self.state, self.sentence)
+        }
+    }
+}
+
+#[cfg(test)]
+mod tests {
+    use super::*;
+
+    #[test]
+    fn rows_are_read_as_they_were_written() {
+        let found =
+            |name: &str, state| Finding::none(name.into(), state, format!("why, of \"{name}\""));
+        let findings = [found("=1", State::Changed), found("a\\b,c", State::Failed)];
+        let table = text(findings.iter());
+        let rows = rows(table.as_bytes()).unwrap();
+        assert_eq!(rows.len(), 2);
+        for (row, wanted) in rows.into_iter().zip(findings) {
+            let read = row.finding();
+            assert_eq!((&read.batch, read.state), (&wanted.batch, wanted.state));
+            assert_eq!(
+                (&read.time, &read.sentence),
+                (&wanted.time, &wanted.sentence)
+            );
+            assert_eq!(read.program.library, wanted.program.library);
+        }
+    }
+
+    #[test]
+    fn a_table_of_fewer_columns_is_read_too() {
+        let table = b"batch,state,verdict,time,sentence\r\na,waiting,,,stopped\r\n";
+        let row = rows(table).unwrap().remove(0).finding();
+        assert_eq!((row.state, &*row.program.version), (State::Waiting, ""));
+    }
+
+    #[test]
+    fn nothing_else_is_a_table() {
+        for table in [
+            &b""[..],
+            b"batch,state\r\na,waiting\r\n",
+            b"batch,state,time,sentence\r\na,unheard,,\r\n",
+            b"batch,state,time,sentence\r\n\\,waiting,,\r\n",
+            b"batch,state,time,sentence\r\na,waiting\r\n",
+            b"\xff\r\n",
+        ] {
+            assert!(rows(table).is_none(), "{table:?}");
+        }
+    }
+}
