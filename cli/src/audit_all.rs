@@ -9,7 +9,7 @@ use crate::audit::wanted;
 use crate::commands::Command;
 use crate::findings::{Auditor, Finding, State, Wanted};
 use crate::help;
-use crate::kept::{self, Kept};
+use crate::kept;
 use crate::outcome::{print_to, say, standard_output, NotRun, Status};
 use crate::shown;
 use crate::system;
@@ -165,12 +165,9 @@ fn with_others(findings: &Findings, folder: &Path, wanted: Wanted) -> Result<Fin
         if rows.contains_key(&name) {
             continue;
         }
-        let finding = match Kept::read(folder, &name) {
-            Ok(Some(kept)) => kept.finding(&name, &mut auditor)?.without_order(),
-            Ok(None) => continue,
-            Err(damage) => damage.finding(name.clone()),
-        };
-        rows.insert(name, finding);
+        if let Some(finding) = kept::found(folder, &name, &mut auditor)? {
+            rows.insert(name, finding.without_order());
+        }
     }
     Ok(rows)
 }

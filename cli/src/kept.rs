@@ -5,7 +5,7 @@ use crate::files;
 use crate::findings::{Auditor, Finding, Program, State};
 use crate::outcome::NotRun;
 use crate::system;
-use crate::texts::{self, Texts, BATCH};
+use crate::texts::{self, Text, Texts, BATCH};
 use crate::verdicts;
 use std::ffi::{CStr, OsStr, OsString};
 use std::fs;
@@ -61,8 +61,8 @@ impl Kept {
             Err(why) => return Err(Damage::new(why)),
             Ok(opened) => opened,
         };
-        let [programs, trace, report] = BATCH.map(|text| text.c_name());
-        let names = [programs, trace, report, OUTPUT, ABOUT];
+        let texts = BATCH.into_iter().map(Text::c_name);
+        let names: Vec<&CStr> = texts.chain([OUTPUT, ABOUT]).collect();
         let read = files::read(&opened, &names, LIMIT).map_err(|NotRun(why)| Damage::new(why))?;
         let mut contents = Vec::new();
         for (name, bytes) in names.iter().zip(read) {
@@ -109,6 +109,19 @@ impl Kept {
             verdict_of(&printed)
         );
         Ok(Finding::none(finding.batch, State::Outdated, sentence))
+    }
+}
+
+/// What is found of a name that has a result; none where that is gone meanwhile.
+pub fn found(
+    folder: &Path,
+    name: &OsStr,
+    auditor: &mut Auditor,
+) -> Result<Option<Finding>, NotRun> {
+    match Kept::read(folder, name) {
+        Ok(Some(kept)) => kept.finding(name, auditor).map(Some),
+        Ok(None) => Ok(None),
+        Err(damage) => Ok(Some(damage.finding(name.to_owned()))),
     }
 }
 

@@ -5,7 +5,7 @@ use crate::audit::wanted;
 use crate::commands::Command;
 use crate::findings::{Auditor, Finding, State};
 use crate::help;
-use crate::kept::{self, Kept, MARK, MARKER};
+use crate::kept::{self, MARK, MARKER};
 use crate::outcome::{print, NotRun, Status};
 use crate::shown;
 use crate::table;
@@ -122,44 +122,38 @@ type Findings = BTreeMap<OsString, Finding>;
 fn found(folder: &Path, auditor: &mut Auditor) -> Result<Findings, NotRun> {
     let mut found = Findings::new();
     for name in kept::names(folder)? {
-        if let Some(finding) = found_of(folder, &name, auditor)? {
+        if let Some(finding) = kept::found(folder, &name, auditor)? {
             found.insert(name, finding);
         }
     }
-    for row in told(folder)? {
-        let gone = row.state.is_verdict();
-        let told = row.finding();
-        match found.get(&told.batch) {
-            // Only a run that looked at the spool can say that a batch changed, and not of a result that was kept since.
-            Some(kept) if told.state != State::Changed || kept.time > told.time => {}
-            Some(kept) if kept.state == State::Damaged => {}
-            None if gone => {
-                let sentence = "its kept result is gone".to_owned();
-                let finding = Finding::none(told.batch.clone(), State::Damaged, sentence);
-                found.insert(told.batch, finding);
-            }
-            _ => {
-                found.insert(told.batch.clone(), told);
-            }
-        }
+    for told in told(folder)? {
+        let finding = match found.get(&told.batch) {
+            None if told.state.is_verdict() => gone(&told.batch),
+            None => told,
+            Some(kept) if is_news(&told, kept) => told,
+            Some(_) => continue,
+        };
+        found.insert(finding.batch.clone(), finding);
     }
     Ok(found)
 }
 
-/// What is found of a kept result, if it is still there.
-fn found_of(folder: &Path, name: &OsStr, auditor: &mut Auditor) -> Result<Option<Finding>, NotRun> {
-    match Kept::read(folder, name) {
-        Ok(Some(kept)) => kept.finding(name, auditor).map(Some),
-        Ok(None) => Ok(None),
-        Err(damage) => Ok(Some(damage.finding(name.to_owned()))),
-    }
+/// Whether what the table says counts and not the kept result: only a run that looked at the spool can say that a batch changed, and
+/// it does not say so of a result that was kept since.
+fn is_news(told: &Finding, kept: &Finding) -> bool {
+    told.state == State::Changed && kept.state != State::Damaged && told.time >= kept.time
 }
 
-/// The rows of the table that the last run left, if one has ended.
-fn told(folder: &Path) -> Result<Vec<table::Row>, NotRun> {
+fn gone(name: &OsStr) -> Finding {
+    let sentence = "its kept result is gone".to_owned();
+    Finding::none(name.to_owned(), State::Damaged, sentence)
+}
+
+/// What the table says that the last run left, if one has ended.
+fn told(folder: &Path) -> Result<Vec<Finding>, NotRun> {
     let file = table::FILE;
     match fs::read(folder.join(file)) {
-        Ok(bytes) => table::rows(&bytes)
+        Ok(bytes) => table::findings(&bytes)
             .ok_or_else(|| NotRun(format!("{file} is not a table of this program"))),
         Err(why) if why.kind() == io::ErrorKind::NotFound => Ok(Vec::new()),
         Err(why) => Err(NotRun(format!("{file} cannot be read: {why}"))),

@@ -3,7 +3,7 @@
 use crate::csv;
 use crate::findings::{Finding, Program, State};
 use crate::shown;
-use std::ffi::{OsStr, OsString};
+use std::ffi::OsStr;
 
 /// The file that it stands in.
 pub const FILE: &str = "table.csv";
@@ -51,51 +51,30 @@ fn row(finding: &Finding) -> String {
     csv::record(fields.iter().map(String::as_str))
 }
 
-/// A row as it was written, by the words of its heading; what a version without a column left out is empty.
-pub struct Row {
-    pub batch: OsString,
-    pub state: State,
-    time: String,
-    sentence: String,
-    version: String,
-    library: String,
-}
-
-/// The rows of a table; none where it is not one.
-pub fn rows(table: &[u8]) -> Option<Vec<Row>> {
+/// The findings of a table, without what a verdict has; none where it is no table. Columns are found by their words: what a version
+/// without a column left out is empty.
+pub fn findings(table: &[u8]) -> Option<Vec<Finding>> {
     let mut records = csv::records(std::str::from_utf8(table).ok()?)?.into_iter();
     let heading = records.next()?;
-    let row = |fields: Vec<String>| {
+    let finding = |fields: Vec<String>| {
         let field = |word: &str| {
             let place = heading.iter().position(|column| column == word);
             place.and_then(|place| fields.get(place)).cloned()
         };
-        Some(Row {
-            batch: shown::name_shown_as(&field("batch")?)?,
-            state: State::named(OsStr::new(&field("state")?))?,
-            time: field("time")?,
-            sentence: field("sentence")?,
+        let batch = shown::name_shown_as(&field("batch")?)?;
+        let state = State::named(OsStr::new(&field("state")?))?;
+        let program = Program {
             version: field("version").unwrap_or_default(),
             library: field("library").unwrap_or_default(),
-        })
-    };
-    records.map(row).collect()
-}
-
-impl Row {
-    /// A row without a verdict as it was found.
-    pub fn finding(self) -> Finding {
-        let program = Program {
-            version: self.version,
-            library: self.library,
             kit: String::new(),
         };
-        Finding {
+        Some(Finding {
             program,
-            time: self.time,
-            ..Finding::none(self.batch, self.state, self.sentence)
-        }
-    }
+            time: field("time")?,
+            ..Finding::none(batch, state, field("sentence")?)
+        })
+    };
+    records.map(finding).collect()
 }
 
 #[cfg(test)]
@@ -108,10 +87,9 @@ mod tests {
             |name: &str, state| Finding::none(name.into(), state, format!("why, of \"{name}\""));
         let findings = [found("=1", State::Changed), found("a\\b,c", State::Failed)];
         let table = text(findings.iter());
-        let rows = rows(table.as_bytes()).unwrap();
-        assert_eq!(rows.len(), 2);
-        for (row, wanted) in rows.into_iter().zip(findings) {
-            let read = row.finding();
+        let read = super::findings(table.as_bytes()).unwrap();
+        assert_eq!(read.len(), 2);
+        for (read, wanted) in read.into_iter().zip(findings) {
             assert_eq!((&read.batch, read.state), (&wanted.batch, wanted.state));
             assert_eq!(
                 (&read.time, &read.sentence),
@@ -124,7 +102,7 @@ mod tests {
     #[test]
     fn a_table_of_fewer_columns_is_read_too() {
         let table = b"batch,state,verdict,time,sentence\r\na,waiting,,,stopped\r\n";
-        let row = rows(table).unwrap().remove(0).finding();
+        let row = findings(table).unwrap().remove(0);
         assert_eq!((row.state, &*row.program.version), (State::Waiting, ""));
     }
 
@@ -138,7 +116,7 @@ mod tests {
             b"batch,state,time,sentence\r\na,waiting\r\n",
             b"\xff\r\n",
         ] {
-            assert!(rows(table).is_none(), "{table:?}");
+            assert!(findings(table).is_none(), "{table:?}");
         }
     }
 }
