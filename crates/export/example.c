@@ -16,6 +16,9 @@ static uint64_t order[TEASELSHEARS_ORDER];
 int main(void) {
     uint64_t host[4], audit[TEASELSHEARS_ORDER_NUMBERS];
     size_t written, i, operations = 0;
+    /* The library that was linked is the one of this header. */
+    if (teaselshears_version() != TEASELSHEARS_VERSION_NUMBER)
+        return 1;
     /* The numbers mean something only where all of them were written. */
     if (teaselshears_record(TEXT(programs), TEXT(schedule), trace, sizeof trace, report, sizeof report, host, 4) != 4 ||
         host[0] != TEASELSHEARS_ACCEPTED)

@@ -1,10 +1,11 @@
 //! Audits three empty texts, and prints the result.
 //!
 //! rustc crates/export/example.rs -L target/staticlib -l static=export -o target/example-rs && target/example-rs
-#[allow(dead_code)]
 mod teaselshears;
 
 fn main() {
+    // The library that was linked is the one of this module.
+    assert_eq!(teaselshears::version(), teaselshears::VERSION);
     let [programs, trace, report] = [b"", b"", b""];
     let mut out = [u64::MAX; 6];
     let written = teaselshears::audit(programs, trace, report, &mut out);

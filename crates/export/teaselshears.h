@@ -19,6 +19,17 @@
 extern "C" {
 #endif
 
+/* The version of this header, which is that of the library and of the command. It is raised with each change of what is read,
+   printed or called: minor is the number of the last change request that is in it (P6 was 0.6.0), and patch is raised with
+   every change between two of them. CHANGELOG.md says what changed, and what a caller has to change. The number is
+   major * 1000000 + minor * 1000 + patch, so that a later version has the larger one. */
+#define TEASELSHEARS_VERSION "0.6.1"
+#define TEASELSHEARS_VERSION_NUMBER 6001
+
+/* The version of the library as such a number. Header and library belong together where this is TEASELSHEARS_VERSION_NUMBER:
+   a caller looks at it once, before its first call. A library before 0.6.1 has no such function, and the linker says so. */
+uint64_t teaselshears_version(void);
+
 /* The verdicts. docs/FORMATS.md has them with their rules and examples. There is no 15. */
 enum teaselshears_verdict {
     TEASELSHEARS_ACCEPTED = 0,             /* of the host: recorded */

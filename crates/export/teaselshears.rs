@@ -1,7 +1,15 @@
 //! The proved audit and reference host for Rust: each function of teaselshears.h, which says what it promises, over slices.
 //! Include it as a module (`#[path = ".."] mod teaselshears;`), and link target/staticlib/libexport.a.
 
+// Who includes it need not call all of it.
+#![allow(dead_code)]
+
+/// The version that this module was written for, as a number: major * 1000000 + minor * 1000 + patch.
+pub const VERSION: u64 = 6001;
+
 extern "C" {
+    fn teaselshears_version() -> u64;
+
     fn teaselshears_audit(
         programs: *const u8,
         programs_length: usize,
@@ -60,7 +68,13 @@ extern "C" {
     ) -> usize;
 }
 
-// SAFETY, of all five: each address comes with the length of the slice that it is the start of; the slices live until the call
+/// The version of the library, as a number. Module and library belong together where it is `VERSION`.
+pub fn version() -> u64 {
+    // SAFETY: it takes nothing, and there is no state.
+    unsafe { teaselshears_version() }
+}
+
+// SAFETY, of the other five: each address comes with the length of the slice that it is the start of; the slices live until the call
 // returns, and those that are written to are lent to it alone.
 
 /// Verdict, line, requests, operations, blocks and rest to the front of `out`: 6, or 0 where `out` is too short and nothing is written.

@@ -13,6 +13,7 @@ tests![
     version_in_three_lines,
     version_names_the_library_that_was_proved,
     version_in_results_and_json,
+    version_first_in_the_changelog,
 ];
 
 fn explain(verdict: &str) -> Ended {
@@ -141,5 +142,25 @@ fn version_in_results_and_json(room: &Room) -> Done {
         assert_eq!(object[key], text(&value));
     }
     assert_eq!(about(&kept, "library"), library());
+    Ok(())
+}
+
+/// The entries of CHANGELOG.md go from this version down, each once.
+fn version_first_in_the_changelog(_: &Room) -> Done {
+    let text = String::from_utf8(read(root().join("CHANGELOG.md"))).unwrap();
+    let headings = text.lines().filter_map(|line| line.strip_prefix("## "));
+    let versions: Vec<&str> = headings.filter_map(|h| h.split(' ').next()).collect();
+    assert_eq!(versions.first(), Some(&env!("CARGO_PKG_VERSION")));
+    let numbers = |version: &&str| {
+        version
+            .split('.')
+            .map(|n| n.parse::<u64>().unwrap())
+            .collect()
+    };
+    let numbers: Vec<Vec<u64>> = versions.iter().map(numbers).collect();
+    assert!(
+        numbers.windows(2).all(|pair| pair[0] > pair[1]),
+        "{versions:?}"
+    );
     Ok(())
 }

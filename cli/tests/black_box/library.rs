@@ -11,7 +11,9 @@ tests![
     an_example_in_cpp,
     an_example_in_rust,
     a_caller_for_fewer_numbers,
-    the_header_alone
+    the_header_alone,
+    one_version_in_the_sources,
+    one_version_in_c,
 ];
 
 fn folder() -> PathBuf {
@@ -156,5 +158,75 @@ fn the_header_alone(room: &Room) -> Done {
             "a constant for verdict {verdict}"
         );
     }
+    Ok(())
+}
+
+/// The program's version as one number: major * 1000000 + minor * 1000 + patch.
+fn version_number() -> u64 {
+    let parts = env!("CARGO_PKG_VERSION").split('.');
+    let parts: Vec<u64> = parts.map(|part| part.parse().unwrap()).collect();
+    let [major, minor, patch] = parts[..] else {
+        panic!("{parts:?} are not three numbers");
+    };
+    assert!(minor < 1_000 && patch < 1_000, "{parts:?}");
+    major * 1_000_000 + minor * 1_000 + patch
+}
+
+/// Header and binding say the program's version, each once.
+fn one_version_in_the_sources(_: &Room) -> Done {
+    let (version, number) = (env!("CARGO_PKG_VERSION"), version_number());
+    for (file, name, value) in [
+        (
+            "teaselshears.h",
+            "#define TEASELSHEARS_VERSION ",
+            format!("\"{version}\""),
+        ),
+        (
+            "teaselshears.h",
+            "#define TEASELSHEARS_VERSION_NUMBER ",
+            format!("{number}"),
+        ),
+        (
+            "teaselshears.rs",
+            "pub const VERSION: u64 = ",
+            format!("{number};"),
+        ),
+    ] {
+        let text = String::from_utf8(read(folder().join(file))).unwrap();
+        let values = text.lines().filter_map(|line| line.strip_prefix(name));
+        assert_eq!(values.collect::<Vec<_>>(), [value], "{file}: {name}");
+    }
+    Ok(())
+}
+
+/// Prints the header's version, its number, and what the library answers. The preprocessor has to understand the number too.
+const VERSION_CALLER: &str = r#"
+#include "teaselshears.h"
+#include <stdio.h>
+
+#if TEASELSHEARS_VERSION_NUMBER < 6001
+#error "a version from before there was a number"
+#endif
+
+int main(void) {
+    printf("%s\n%d\n", TEASELSHEARS_VERSION, TEASELSHEARS_VERSION_NUMBER);
+    printf("%llu\n", (unsigned long long)teaselshears_version());
+    return teaselshears_version() == TEASELSHEARS_VERSION_NUMBER ? 0 : 1;
+}
+"#;
+
+/// The header's version, its number and the library's answer are those of the program, as a caller in C gets them.
+fn one_version_in_c(room: &Room) -> Done {
+    needs("cc")?;
+    let (library, program) = (built()?, room.path("version"));
+    let source = room.file("version.c", VERSION_CALLER);
+    let mut cc = Command::new("cc");
+    cc.args(["-std=c99", "-Wall", "-Wextra", "-Werror", "-pedantic", "-I"])
+        .arg(folder());
+    cc.arg(source).arg(library).arg("-o").arg(&program);
+    cc.end().is(0);
+    let (version, number) = (env!("CARGO_PKG_VERSION"), version_number());
+    let printed = format!("{version}\n{number}\n{number}\n");
+    Command::new(&program).end().is(0).printed(printed);
     Ok(())
 }

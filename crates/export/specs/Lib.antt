@@ -1,3 +1,4 @@
 -- The definitions, in reading order.
 pub mod Numbers
 pub mod Printed
+pub mod Version

@@ -18,6 +18,22 @@ ghost use Rattle.host.specs.Printed.{runPrinted};
 ghost use Rattle.host.specs.Recorded.{recordOf};
 ghost use Rattle.export.specs.Numbers.{ifRoom, handed, auditNumbers, recordFrom, RecordHanded, OrderHanded};
 ghost use Rattle.export.specs.Printed.{PrintedIs};
+ghost use Rattle.export.specs.Version.{version};
+
+// The version's parts, of which minor and patch stay below 1,000.
+const MAJOR: u64 = 0;
+
+const MINOR: u64 = 6;
+
+const PATCH: u64 = 1;
+
+// The version as one number, by which a caller sees that the library is the one of its header.
+#[no_mangle]
+pub extern "C" fn teaselshears_version() -> u64
+    ensures { λ r. ⌜ r ≡ version ⌝ }
+{
+    MAJOR * 1000000 + MINOR * 1000 + PATCH
+}
 
 // The verdict on three texts: verdict, line, requests, operations, blocks and rest to the front of out. The result is how many numbers were
 // written: six, or none where out is too short for them, as is that of a caller who knows of four.
