@@ -3,7 +3,6 @@
 use crate::outcome::NotRun;
 use crate::texts::{Texts, BATCH, RUN};
 
-#[allow(dead_code)]
 #[path = "../../crates/export/teaselshears.rs"]
 mod teaselshears;
 
