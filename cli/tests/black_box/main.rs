@@ -5,6 +5,7 @@
 
 mod arguments;
 mod bill;
+mod completion;
 mod csv;
 mod disk;
 mod environment;
@@ -67,6 +68,7 @@ fn main() -> ExitCode {
         disk::TESTS,
         library::TESTS,
         install::TESTS,
+        completion::TESTS,
     ];
     harness::run(&tests.concat())
 }
