@@ -6,6 +6,7 @@
 mod arguments;
 mod bill;
 mod complete;
+mod completion;
 mod csv;
 mod disk;
 mod environment;
@@ -75,6 +76,7 @@ fn main() -> ExitCode {
         disk::TESTS,
         library::TESTS,
         install::TESTS,
+        completion::TESTS,
     ];
     harness::run(&tests.concat())
 }
