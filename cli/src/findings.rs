@@ -228,10 +228,16 @@ impl Finding {
             object.add("order", json::optional(self.order.as_deref().map(listed)));
         }
         object.add("sentence", json::string(&self.sentence));
-        object.add("time", json::string(&self.time));
-        object.add("version", json::string(&self.program.version));
-        object.add("library", json::string(&self.program.library));
-        object.add("kit", json::string(&self.program.kit));
+        // What the table of an earlier run does not have is empty.
+        for (key, word) in [
+            ("time", &self.time),
+            ("version", &self.program.version),
+            ("library", &self.program.library),
+            ("kit", &self.program.kit),
+        ] {
+            let word = (!word.is_empty()).then(|| json::string(word));
+            object.add(key, json::optional(word));
+        }
         object.line()
     }
 }

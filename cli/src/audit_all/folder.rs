@@ -5,6 +5,7 @@ use crate::kept::{self, MARK, MARKER};
 use crate::outcome::NotRun;
 use crate::shown;
 use crate::system;
+use crate::table;
 use crate::texts::{self, Texts};
 use std::ffi::OsString;
 use std::fs::{self, File, OpenOptions};
@@ -95,14 +96,15 @@ impl Results {
     }
 
     /// Puts the table in the place of the last one, and ends the work on the folder.
-    pub fn keep_table(&self, table: &str) -> Result<(), NotRun> {
-        let new = self.working().join("table.csv");
-        let kept = fs::write(&new, table)
+    pub fn keep_table(&self, text: &str) -> Result<(), NotRun> {
+        let file = table::FILE;
+        let new = self.working().join(file);
+        let kept = fs::write(&new, text)
             .and_then(|()| self.sync())
-            .and_then(|()| fs::rename(&new, self.folder.join("table.csv")))
+            .and_then(|()| fs::rename(&new, self.folder.join(file)))
             .and_then(|()| self.sync())
             .and_then(|()| fs::remove_dir_all(self.working()));
-        kept.map_err(|why| NotRun(format!("table.csv cannot be written: {why}")))
+        kept.map_err(|why| NotRun(format!("{file} cannot be written: {why}")))
     }
 }
 

@@ -156,7 +156,7 @@ fn what_the_last_run_could_not_keep(room: &Room) -> Done {
     let ended = results(&["--state", "failed", "--json"], &kept);
     let object = objects(&ended.is(0).stdout).remove(0);
     assert_eq!(object["batch"], text("=d\\ \u{e4}"));
-    assert_eq!(object["verdict"], Value::Null);
+    assert_eq!([&object["verdict"], &object["kit"]], [&Value::Null; 2]);
     assert_eq!(listed(&["--state", "accepted"], &kept), [""; 0]);
     // Audited anew, it is what it is now, before another table is written too.
     fs::remove_dir_all(kept.join("batches/c")).unwrap();
