@@ -4,8 +4,10 @@
 use crate::files;
 use crate::findings::{Auditor, Finding, Program, State};
 use crate::outcome::NotRun;
+use crate::shown;
 use crate::system;
 use crate::texts::{self, Text, Texts, BATCH};
+use crate::time;
 use crate::verdicts;
 use std::ffi::{CStr, OsStr, OsString};
 use std::fs;
@@ -189,8 +191,12 @@ impl About {
     fn read(bytes: &[u8]) -> Option<About> {
         let text = std::str::from_utf8(bytes).ok()?;
         let mut lines = text.strip_suffix('\n')?.split('\n');
-        let mut value = |word: &str| Some(lines.next()?.strip_prefix(word)?.to_owned());
-        let time = value("time=")?;
+        let mut value = |word: &str| {
+            let value = lines.next()?.strip_prefix(word)?;
+            // It is shown to people, and anything may have been written there.
+            shown::is_harmless(value).then(|| value.to_owned())
+        };
+        let time = value("time=").filter(|time| time::is_time(time))?;
         let program = Program {
             version: value("version=")?,
             library: value("library=")?,
@@ -245,14 +251,18 @@ event=1\nop=1,1\nevent=2\n";
 
     #[test]
     fn what_is_about_a_result_is_read_as_it_was_written() {
-        let text = "time=t\nversion=v\nlibrary=l\nkit=k\nsentence=s = t\n";
+        let text = "time=2026-11-16T08:30:00Z\nversion=v\nlibrary=l\nkit=k\nsentence=s = t\n";
         assert_eq!(About::read(text.as_bytes()).unwrap().text(), text);
         for wrong in [
             "",
-            "time=t\n",
+            "time=2026-11-16T08:30:00Z\n",
             &text[1..],
             &text[..text.len() - 1],
             &format!("{text}\n"),
+            &text.replace("T08:30:00Z", ""),
+            &text.replace("2026", "today"),
+            &text.replace("version=v", "version=\x1b[2J"),
+            &text.replace("library=l", "library=\u{202e}"),
         ] {
             assert!(About::read(wrong.as_bytes()).is_none(), "{wrong:?}");
         }

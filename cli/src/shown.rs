@@ -63,6 +63,11 @@ fn push_bytes(shown: &mut String, bytes: &[u8]) {
     }
 }
 
+/// Whether a text is harmless as it is.
+pub fn is_harmless(text: &str) -> bool {
+    text.chars().all(is_plain)
+}
+
 /// Neither a control character nor one that breaks a line or turns the direction of writing.
 fn is_plain(letter: char) -> bool {
     let turns = matches!(letter, '\u{200e}' | '\u{200f}' | '\u{2028}'..='\u{202e}' | '\u{2066}'..='\u{2069}');
@@ -111,6 +116,16 @@ mod tests {
         assert_eq!(shown(b"a\\xff"), "a\\\\xff");
         assert_eq!(shown(b"tab\tfeed\n\x1b"), "tab\\x09feed\\x0a\\x1b");
         assert_eq!(shown("a\u{202e}b".as_bytes()), "a\\xe2\\x80\\xaeb");
+    }
+
+    #[test]
+    fn what_a_terminal_would_heed_is_not_harmless() {
+        for text in ["", "accepted: 2 requests", "Käse \\x1b", "日本"] {
+            assert!(is_harmless(text), "{text:?}");
+        }
+        for text in ["\x1b[31m", "a\tb", "a\n", "a\u{202e}b", "\u{85}"] {
+            assert!(!is_harmless(text), "{text:?}");
+        }
     }
 
     #[test]

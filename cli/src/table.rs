@@ -3,6 +3,7 @@
 use crate::csv;
 use crate::findings::{Finding, Program, State};
 use crate::shown;
+use crate::time;
 use std::ffi::OsStr;
 
 /// The file that it stands in.
@@ -59,7 +60,9 @@ pub fn findings(table: &[u8]) -> Option<Vec<Finding>> {
     let finding = |fields: Vec<String>| {
         let field = |word: &str| {
             let place = heading.iter().position(|column| column == word);
-            place.and_then(|place| fields.get(place)).cloned()
+            let field = place.and_then(|place| fields.get(place))?;
+            // It is shown to people, and anything may have been written there.
+            shown::is_harmless(field).then(|| field.clone())
         };
         let batch = shown::name_shown_as(&field("batch")?)?;
         let state = State::named(OsStr::new(&field("state")?))?;
@@ -70,7 +73,8 @@ pub fn findings(table: &[u8]) -> Option<Vec<Finding>> {
         };
         Some(Finding {
             program,
-            time: field("time")?,
+            // Rows without a verdict had none before each row had one.
+            time: field("time").filter(|time| time.is_empty() || time::is_time(time))?,
             ..Finding::none(batch, state, field("sentence")?)
         })
     };
@@ -114,6 +118,8 @@ mod tests {
             b"batch,state,time,sentence\r\na,unheard,,\r\n",
             b"batch,state,time,sentence\r\n\\,waiting,,\r\n",
             b"batch,state,time,sentence\r\na,waiting\r\n",
+            b"batch,state,time,sentence\r\na,waiting,,\x1b[2J\r\n",
+            b"batch,state,time,sentence\r\na,waiting,yesterday,stopped\r\n",
             b"\xff\r\n",
         ] {
             assert!(findings(table).is_none(), "{table:?}");

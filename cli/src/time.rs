@@ -8,6 +8,11 @@ pub fn now() -> String {
     utc(since.map_or(0, |since| since.as_secs()))
 }
 
+/// Whether a word is a time of that form.
+pub fn is_time(word: &str) -> bool {
+    is_moment(word) && word.contains('T')
+}
+
 /// Whether a word is a day, as 2026-11-16, or a time of that form.
 pub fn is_moment(word: &str) -> bool {
     let form = "0000-00-00T00:00:00Z";
@@ -80,7 +85,7 @@ mod tests {
         ] {
             assert!(!is_moment(word), "{word}");
         }
-        assert!(is_moment(&now()));
+        assert!(is_time(&now()) && !is_time("2026-11-16") && !is_time(""));
     }
 
     #[test]

@@ -214,8 +214,20 @@ fn no_results(room: &Room) -> Done {
     let (spool, kept) = (room.folder("spool"), room.path("results"));
     audit_all(&spool, &kept).is(2);
     results(&[], &kept).is(0).printed("");
-    fs::write(kept.join("table.csv"), "not a table").unwrap();
-    results(&[], &kept).could_not("table.csv");
+    let heading = "batch,state,verdict,time,sentence\r\n";
+    for table in [
+        "not a table".to_string(),
+        format!("{heading}a,failed,,,\x1b[2J\r\n"),
+    ] {
+        fs::write(kept.join("table.csv"), table).unwrap();
+        results(&[], &kept).could_not("table.csv");
+    }
+    // As the versions wrote it whose rows without a verdict had no time.
+    let table = format!("{heading}a,failed,,,could not be run\r\n");
+    fs::write(kept.join("table.csv"), table).unwrap();
+    results(&[], &kept)
+        .is(0)
+        .printed("a\t\tfailed\t\tcould not be run\n");
     Ok(())
 }
 

@@ -21,6 +21,7 @@ tests![
     a_kept_result_whose_output_is_empty,
     a_kept_result_whose_order_is_damaged,
     a_kept_result_whose_bill_is_damaged,
+    a_kept_result_with_bytes_for_a_terminal,
     a_kept_result_that_lacks_a_file,
     a_kept_result_with_another_text,
     an_accepting_output_over_a_refusing_one,
@@ -290,6 +291,24 @@ fn a_kept_result_whose_bill_is_damaged(room: &Room) -> Done {
     ];
     for output in WRONG_BILLS.map(bill).into_iter().chain(others) {
         fs::write(results.join("batches/batch-2/output"), output).unwrap();
+        damaged(&spool, &results, "batch-2");
+    }
+    Ok(())
+}
+
+/// What is about a result is shown to people.
+fn a_kept_result_with_bytes_for_a_terminal(room: &Room) -> Done {
+    let (spool, results) = kept_spool(room);
+    for (line, wrong) in [
+        ("version=", "version=\x1b[2J"),
+        ("library=", "library=\u{202e}"),
+        ("time=2", "time=\t2"),
+        ("time=2", "time=soon 2"),
+    ] {
+        let path = results.join("batches/batch-2/about");
+        let about = String::from_utf8(read(&path)).unwrap();
+        let wrong = about.replace(line, wrong);
+        fs::write(path, wrong).unwrap();
         damaged(&spool, &results, "batch-2");
     }
     Ok(())
