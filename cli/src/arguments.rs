@@ -3,6 +3,8 @@
 use crate::outcome::NotRun;
 use crate::shown;
 use std::ffi::{OsStr, OsString};
+use std::fs;
+use std::io;
 use std::os::unix::ffi::{OsStrExt, OsStringExt};
 
 /// An option of a command.
@@ -45,6 +47,8 @@ const fn valued(long: &'static str, short: Option<u8>) -> Flag {
 pub struct Given {
     options: Vec<(&'static str, Option<OsString>)>,
     pub arguments: Vec<OsString>,
+    /// Whether one of them is a dash that stands for standard input: behind `--` it is a name like any other.
+    pub dash: bool,
 }
 
 impl Given {
@@ -97,10 +101,12 @@ pub fn read(words: &[OsString], flags: &[Flag]) -> Result<Given, NotRun> {
             return Ok(given);
         }
         if word == "-" || !word.as_bytes().starts_with(b"-") {
+            given.dash |= word == "-";
             given.arguments.push(word);
             continue;
         }
         let (flag, attached) = find(&word, flags)?;
+        is_no_name(&word)?;
         let value = match (flag.takes_value, attached) {
             (true, None) => Some(words.next().ok_or_else(|| needs_value(flag))?),
             (_, attached) => attached,
@@ -108,6 +114,20 @@ pub fn read(words: &[OsString], flags: &[Flag]) -> Result<Given, NotRun> {
         given.options.push((flag.long, value));
     }
     Ok(given)
+}
+
+/// Refuses a word that is a name in the working folder: a shell may have put it there (`audit *`), and what it names would be
+/// passed over, or the status of a help text taken for that of a batch.
+pub fn is_no_name(word: &OsStr) -> Result<(), NotRun> {
+    match fs::symlink_metadata(word) {
+        Err(why) if why.kind() == io::ErrorKind::NotFound => Ok(()),
+        _ => {
+            let word = shown::name(word);
+            Err(NotRun(format!(
+                "'{word}' is a name in this folder, so it is not taken for an option or a question; a folder of that name is './{word}'"
+            )))
+        }
+    }
 }
 
 /// The option that a word names, with the value that stands in the same word.
@@ -156,6 +176,7 @@ mod tests {
         assert!(given.has(&JSON) && !given.has(&HELP));
         assert_eq!(given.value(&JOBS), Some(OsStr::new("3")));
         assert_eq!(given.arguments, ["a", "-", "--help"]);
+        assert!(given.dash && !read_words(&["--", "-"]).unwrap().dash);
         for words in [["--jobs=4"], ["-j4"]] {
             assert_eq!(
                 read_words(&words).unwrap().value(&JOBS),

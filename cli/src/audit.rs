@@ -26,11 +26,10 @@ fn run(given: &Given) -> Result<Status, NotRun> {
         auditor: Auditor::new(wanted(given)),
     };
     let folders = &given.arguments;
-    let named = folders.iter().any(|folder| folder == "-");
-    match (named, objects) {
+    match (given.dash, objects) {
         _ if folders.is_empty() => Err(NotRun::new("a folder is to be given ('--help' says more)")),
         (true, _) if folders.len() > 1 => Err(NotRun::new(
-            "'-', for names on standard input, stands alone ('./-' is a folder of that name)",
+            "'-', for names on standard input, stands alone ('-- -' is a folder of that name)",
         )),
         (true, None) => Err(NotRun::new("names on standard input need --json")),
         (false, _) if given.has(&NULL) => Err(NotRun::new(

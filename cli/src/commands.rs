@@ -4,8 +4,6 @@ use crate::arguments::{self, Flag, Given, HELP};
 use crate::outcome::{print, NotRun, Status};
 use crate::{audit, audit_all, explain, help, order, record, results, shown};
 use std::ffi::{OsStr, OsString};
-use std::fs;
-use std::io;
 
 pub struct Command {
     pub name: &'static str,
@@ -31,6 +29,7 @@ pub fn run(words: &[OsString]) -> Result<Status, NotRun> {
     };
     match (first.to_str(), rest) {
         (Some("-h" | "--help" | "help"), []) => tell(first, help::PROGRAM),
+        (Some("help"), [name]) if name == "help" => tell(first, help::PROGRAM),
         (Some("-V" | "--version"), []) => tell(first, &help::version()),
         (Some("help"), [name]) => tell(first, find(name)?.help),
         (Some("-h" | "--help" | "help" | "-V" | "--version"), _) => Err(not_alone(first)),
@@ -49,18 +48,9 @@ impl Command {
     }
 }
 
-/// Prints a text that was asked for by a word. A script that goes through the names of a folder meets one that is the word, and
-/// would take the text's status for that of a batch.
+/// Prints a text that was asked for by a word.
 fn tell(word: &OsStr, text: &str) -> Result<Status, NotRun> {
-    match fs::symlink_metadata(word) {
-        Err(why) if why.kind() == io::ErrorKind::NotFound => {}
-        _ => {
-            let word = shown::name(word);
-            return Err(NotRun(format!(
-                "'{word}' is a name in this folder, so it is not taken for a question; a folder of that name is './{word}'"
-            )));
-        }
-    }
+    arguments::is_no_name(word)?;
     print(text.as_bytes())?;
     Ok(Status::Success)
 }

@@ -12,6 +12,8 @@ use std::time::{Duration, SystemTime, UNIX_EPOCH};
 /// Longer than the step by which a file system counts its times of change: of a file that changed within such a step a second
 /// change may leave the time as it was.
 const STEP: Duration = Duration::from_millis(20);
+/// The same of one that counts whole seconds, or every second one.
+const LONG_STEP: Duration = Duration::from_millis(2_020);
 
 /// Which file it is, how long, and when it changed last.
 #[derive(Clone, Copy, Debug, PartialEq, Eq)]
@@ -35,12 +37,16 @@ impl Stamp {
         }
     }
 
-    /// Whether it changed so long ago that a further change would show in its times.
-    fn is_settled(&self, now: SystemTime) -> bool {
+    /// How long to wait until a further change would show in its times; none where it changed long ago.
+    fn unsettled(&self, now: SystemTime) -> Option<Duration> {
+        let step = match self.written.1 == 0 && self.changed.1 == 0 {
+            true => LONG_STEP,
+            false => STEP,
+        };
         let (seconds, nanos) = self.changed.max(self.written);
         let since = Duration::new(seconds.max(0) as u64, nanos as u32);
-        now.duration_since(UNIX_EPOCH + since)
-            .is_ok_and(|age| age > STEP)
+        let age = now.duration_since(UNIX_EPOCH + since);
+        age.map_or(true, |age| age <= step).then_some(step)
     }
 }
 
@@ -51,7 +57,8 @@ struct Opened {
 }
 
 /// Reads the first bytes of each file; none of one that is not there. All are opened before the first is read, and behind the last
-/// read each is looked at again, as it was opened and by its name: what is given back was there at one time.
+/// read each is looked at again, as it was opened and by its name: what is given back was there at one time, unless links were turned
+/// there and back, or a file was written through memory that it is mapped to, which leaves its times for a while.
 pub fn read(folder: &File, names: &[&CStr], limit: u64) -> Result<Vec<Option<Vec<u8>>>, NotRun> {
     let mut opened = Vec::new();
     for name in names {
@@ -73,6 +80,13 @@ pub fn read(folder: &File, names: &[&CStr], limit: u64) -> Result<Vec<Option<Vec
         }
     }
     Ok(contents)
+}
+
+/// All of one file, or none where it is not there; for one that is replaced whole, by a rename.
+pub fn read_one(folder: &File, name: &CStr) -> Result<Option<Vec<u8>>, NotRun> {
+    let opened = open(folder, name)?;
+    let bytes = opened.map(|opened| front(&opened.file, u64::MAX));
+    bytes.transpose().map_err(|why| unread(name, &why))
 }
 
 /// Opens a file, or finds that it is not there. A link that leads nowhere is there.
@@ -97,14 +111,11 @@ fn open(folder: &File, name: &CStr) -> Result<Option<Opened>, NotRun> {
 /// Where a file changed just now, waits until a further change would show, and sees that there was none.
 fn settle(names: &[&CStr], opened: &[Option<Opened>]) -> Result<(), NotRun> {
     let now = SystemTime::now();
-    if opened
-        .iter()
-        .flatten()
-        .all(|file| file.before.is_settled(now))
-    {
+    let steps = opened.iter().flatten();
+    let Some(step) = steps.filter_map(|file| file.before.unsettled(now)).max() else {
         return Ok(());
-    }
-    thread::sleep(STEP);
+    };
+    thread::sleep(step);
     for (name, opened) in names.iter().zip(opened) {
         let Some(Opened { file, before }) = opened else {
             continue;
@@ -165,13 +176,16 @@ mod tests {
             changed,
         };
         let old = stamp((5, 0), (7, 500_000_000));
-        assert!(old.is_settled(at(7, 520_000_001)));
-        assert!(!old.is_settled(at(7, 520_000_000)));
-        assert!(!old.is_settled(at(7, 500_000_000)));
+        assert_eq!(old.unsettled(at(7, 520_000_001)), None);
+        assert_eq!(old.unsettled(at(7, 520_000_000)), Some(STEP));
+        assert_eq!(old.unsettled(at(7, 500_000_000)), Some(STEP));
         // A clock that was set back, or that of another machine.
-        assert!(!old.is_settled(at(6, 0)));
+        assert_eq!(old.unsettled(at(6, 0)), Some(STEP));
         let written_later = stamp((9, 0), (7, 500_000_000));
-        assert!(!written_later.is_settled(at(8, 0)));
-        assert!(stamp((-5, 3), (-5, 3)).is_settled(at(1, 0)));
+        assert_eq!(written_later.unsettled(at(8, 0)), Some(STEP));
+        assert_eq!(stamp((-5, 3), (-5, 3)).unsettled(at(1, 0)), None);
+        let whole_seconds = stamp((7, 0), (7, 0));
+        assert_eq!(whole_seconds.unsettled(at(9, 0)), Some(LONG_STEP));
+        assert_eq!(whole_seconds.unsettled(at(10, 0)), None);
     }
 }

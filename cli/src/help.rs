@@ -18,7 +18,8 @@ The audit of registry batches, and the reference host. Verdict and order are tho
   -h, --help                 this text, or that of a command; asked for alone
   -V, --version              the version, the prover's sum of the library, and the kit that proved it; asked for alone
 
-Options stand anywhere before '--', behind which everything is an argument.
+Options stand anywhere before '--', behind which everything is an argument. One that is a name in the working folder is
+not taken (status 2): a shell may have put it there, as in 'audit *'.
 
 Exit status of audit, order and audit-all: 0 accepted, 1 refused, 2 could not be run, 3 accepted, but with no request in
 it, or with --complete, with requests left open. Wipe a lane on 0 of one of these and on nothing else. The others end in
@@ -34,7 +35,7 @@ usage: teaselshears audit [--complete] [--json [--brief]] [--missing-as-empty] D
        teaselshears audit [--complete] --json [--brief] [--missing-as-empty] [-0] -
 
 Audits the batch in folder DIR: programs.txt, trace.txt and report.txt. Each is read once, and what was read is what
-is audited. A batch with a text that changes meanwhile is not run; move a batch to its place when it is whole.
+is audited. A batch with a text that is seen to change meanwhile is not run; move a batch to its place when it is whole.
 
 Standard output: what the proved function makes, byte for byte that of the proved program 'audit':
   verdict=N      0 accepted, 1 to 12 refused ('teaselshears explain N' says more)
@@ -64,8 +65,8 @@ and three octal digits).
       --brief             leaves 'order' out of the object
       --missing-as-empty  a missing file is an empty text; without it such a batch is not run. A folder with none
                           of the three files is never run
-  -                       in place of DIR: takes folder names from standard input, one a line, and prints an object
-                          for each
+  -                       in place of DIR, and not behind '--': takes folder names from standard input, one a line, and
+                          prints an object for each
   -0, --null              names are ended by a zero byte and not by a line feed, the last one too
   -h, --help              this text
 
@@ -75,7 +76,7 @@ cannot be written. Of several batches the worst: 2, then 1, then 3. Wipe on 0 an
 
 Examples:
   teaselshears audit /lane/7 && echo 'lane 7 may be wiped'
-  for lane in /lane/*; do teaselshears audit --complete -- \"$lane\" >\"$lane.verdict\"; done
+  for lane in /lane/*; do teaselshears audit --complete --json --brief -- \"$lane\"; done >verdicts
 ";
 
 pub const ORDER: &str = "\
@@ -119,8 +120,8 @@ usage: teaselshears record [--missing-as-empty] DIR OUT
 Runs the schedule in folder DIR (programs.txt and schedule.txt, each read once) on the reference host, and writes the
 batch to folder OUT: programs.txt as it was read, trace.txt and report.txt. The audit accepts it. OUT appears whole, by
 one rename, or not at all; a run that is killed may leave a folder beside it whose name begins with '.teaselshears-',
-which the next run there clears away. An OUT that is there is left alone, with status 2, unless it holds just these
-three texts already.
+which the next run that writes there clears away. An OUT that is there is left alone, with status 2, unless it holds
+just these three texts already.
 
 Standard output: the lines that the proved program 'record' prints before the trace:
   verdict=N      0 recorded; 1, 2, 13, 14 refused ('teaselshears explain N' says more)
@@ -132,8 +133,8 @@ verdict with its cause, the text and the line with its bytes.
                           never run
   -h, --help              this text
 
-Exit status: 0 recorded, and OUT is written; 1 refused, and nothing is written; 2 could not be run. It says nothing of a
-lane: audit what was recorded.
+Exit status: 0 recorded, and OUT is written; 1 refused, and nothing is written; 2 could not be run, or OUT is written and
+standard output cannot be. It says nothing of a lane: audit what was recorded.
 
 Examples:
   teaselshears record /schedules/monday /batches/monday
@@ -170,7 +171,7 @@ state is
   changed    the texts in the spool are not those that were audited
   outdated   another version of the library kept something else than this one gives
   damaged    the kept result is not whole, or is not what this library gives for the kept texts
-  failed     the batch could not be read, or its result not be kept: it is tried again by the next run
+  failed     the batch or its kept result could not be read, or its result not be kept: the next run tries again
   waiting    the run was stopped before it
 The first four have a verdict. To have a batch that is changed, outdated or damaged audited anew, remove batches/NAME.
 A batch from before values read were shown in the log, with 0 in their place, is outdated, and then refused as 10; one
@@ -205,8 +206,9 @@ usage: teaselshears results [--since TIME] [--state STATE] [--verdict N] [--comp
 
 Lists what 'teaselshears audit-all' keeps in folder RESULTS, the oldest first. It writes nothing, and waits for no run
 that is at work there. Each kept result is asked for again: the proved function is given the kept texts, and what it
-gives has to be what was kept ('teaselshears audit-all --help' says what the states are). What was kept of no batch,
-and which batches changed, is told as the last run that ended found it.
+gives has to be what was kept ('teaselshears audit-all --help' says what the states are). Which batches changed, failed
+or wait is told as the table of the last run that ended has it; a kept result that is not the one of the table, or is
+gone, is damaged.
 
 Standard output: a line for each, with a tab between its parts: name, time (UTC), state, verdict, and the sentence.
 

@@ -10,12 +10,13 @@ use crate::texts::{self, Text, Texts, BATCH};
 use crate::time;
 use crate::verdicts;
 use std::ffi::{CStr, OsStr, OsString};
+use std::fmt::Display;
 use std::fs;
 use std::io;
 use std::path::{Path, PathBuf};
 
 /// The file by which a folder is known as one of results, and what it says.
-pub const MARKER: &str = ".teaselshears";
+pub const MARKER: &CStr = c".teaselshears";
 pub const MARK: &[u8] = b"teaselshears results 1\n";
 /// What is kept of a batch beside its texts.
 const OUTPUT: &CStr = c"output";
@@ -42,37 +43,56 @@ pub struct Kept {
     about: About,
 }
 
-/// The words by which a result that is not whole is known.
-pub struct Damage(String);
+/// Why a kept result says nothing: it is damaged, or it could not be read now.
+pub struct Unusable {
+    state: State,
+    sentence: String,
+}
 
-impl Damage {
-    fn new(why: impl std::fmt::Display) -> Damage {
-        Damage(format!("its kept result is damaged: {why}"))
+impl Unusable {
+    fn damaged(why: impl Display) -> Unusable {
+        Unusable {
+            state: State::Damaged,
+            sentence: format!("its kept result is damaged: {why}"),
+        }
+    }
+
+    fn unread(why: impl Display) -> Unusable {
+        Unusable {
+            state: State::Failed,
+            sentence: format!("its kept result cannot be used: {why}"),
+        }
     }
 
     pub fn finding(self, name: OsString) -> Finding {
-        Finding::none(name, State::Damaged, self.0)
+        Finding::none(name, self.state, self.sentence)
     }
 }
 
 impl Kept {
     /// The result that was kept of a name, if any.
-    pub fn read(folder: &Path, name: &OsStr) -> Result<Option<Kept>, Damage> {
+    pub fn read(folder: &Path, name: &OsStr) -> Result<Option<Kept>, Unusable> {
         let opened = match system::open_folder(&batches(folder).join(name)) {
-            Err(why) if why.kind() == io::ErrorKind::NotFound => return Ok(None),
-            Err(why) => return Err(Damage::new(why)),
             Ok(opened) => opened,
+            Err(why) => match why.kind() {
+                io::ErrorKind::NotFound => return Ok(None),
+                io::ErrorKind::NotADirectory => {
+                    return Err(Unusable::damaged("it is not a folder"))
+                }
+                _ => return Err(Unusable::unread(why)),
+            },
         };
         let texts = BATCH.into_iter().map(Text::c_name);
         let names: Vec<&CStr> = texts.chain([OUTPUT, ABOUT]).collect();
-        let read = files::read(&opened, &names, LIMIT).map_err(|NotRun(why)| Damage::new(why))?;
+        let read =
+            files::read(&opened, &names, LIMIT).map_err(|NotRun(why)| Unusable::unread(why))?;
         let mut contents = Vec::new();
         for (name, bytes) in names.iter().zip(read) {
-            let gone = || Damage::new(format!("{} is not there", name.to_string_lossy()));
+            let gone = || Unusable::damaged(format!("{} is not there", name.to_string_lossy()));
             contents.push(bytes.ok_or_else(gone)?);
         }
         let about = contents.pop().and_then(|bytes| About::read(&bytes));
-        let about = about.ok_or_else(|| Damage::new("about is not as it was written"))?;
+        let about = about.ok_or_else(|| Unusable::damaged("about is not as it was written"))?;
         let output = contents.pop().unwrap_or_default();
         let texts = Texts::of(BATCH.into_iter().zip(contents).collect());
         Ok(Some(Kept {
@@ -101,7 +121,7 @@ impl Kept {
         }
         if ours {
             let why = "output is not what this library prints of the kept texts";
-            return Ok(Damage::new(why).finding(finding.batch));
+            return Ok(Unusable::damaged(why).finding(finding.batch));
         }
         let sentence = format!(
             "kept by version {}, library {}, as {}; this library gives {}: to have it audited anew, remove its kept result",
@@ -123,7 +143,7 @@ pub fn found(
     match Kept::read(folder, name) {
         Ok(Some(kept)) => kept.finding(name, auditor).map(Some),
         Ok(None) => Ok(None),
-        Err(damage) => Ok(Some(damage.finding(name.to_owned()))),
+        Err(unusable) => Ok(Some(unusable.finding(name.to_owned()))),
     }
 }
 

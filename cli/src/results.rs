@@ -3,6 +3,7 @@
 use crate::arguments::{Given, BRIEF, COMPLETE, JSON, SINCE, STATE, VERDICT};
 use crate::audit::wanted;
 use crate::commands::Command;
+use crate::files;
 use crate::findings::{Auditor, Finding, State};
 use crate::help;
 use crate::kept::{self, MARK, MARKER};
@@ -13,9 +14,8 @@ use crate::texts;
 use crate::time;
 use crate::verdicts;
 use std::collections::BTreeMap;
-use std::ffi::{OsStr, OsString};
-use std::fs;
-use std::io;
+use std::ffi::OsString;
+use std::fs::File;
 use std::os::unix::ffi::OsStrExt;
 use std::path::Path;
 
@@ -31,8 +31,8 @@ fn run(given: &Given) -> Result<Status, NotRun> {
     let objects = given.objects()?;
     let [folder] = given.exactly("one folder is")?;
     let folder = Path::new(folder);
-    is_ours(folder)?;
-    let mut found: Vec<Finding> = found(folder, &mut Auditor::new(wanted(given)))?
+    let opened = open(folder)?;
+    let mut found: Vec<Finding> = found(folder, &opened, &mut Auditor::new(wanted(given)))?
         .into_values()
         .filter(|finding| asked.has(finding))
         .collect();
@@ -81,7 +81,10 @@ impl Asked<'_> {
 
     fn has(&self, finding: &Finding) -> bool {
         let verdict = finding.audited.map(|audited| audited.verdict);
-        self.since.is_none_or(|since| &*finding.time >= since)
+        let time = &*finding.time;
+        // A row of an earlier version may have none.
+        self.since
+            .is_none_or(|since| time.is_empty() || time >= since)
             && self.state.is_none_or(|state| finding.state == state)
             && self.verdict.is_none_or(|number| verdict == Some(number))
     }
@@ -100,62 +103,74 @@ fn line(finding: &Finding) -> String {
     fields.join("\t") + "\n"
 }
 
-/// Sees that a folder is one that `audit-all` made.
-fn is_ours(folder: &Path) -> Result<(), NotRun> {
-    texts::open_folder(folder)?;
+/// Opens a folder, and sees that it is one that `audit-all` made.
+fn open(folder: &Path) -> Result<File, NotRun> {
+    let opened = texts::open_folder(folder)?;
     let name = shown::name(folder.as_os_str());
-    match fs::read(folder.join(MARKER)) {
-        Ok(mark) if mark == MARK => Ok(()),
-        Ok(_) => Err(NotRun(format!(
+    match files::read_one(&opened, MARKER)? {
+        Some(mark) if mark == MARK => Ok(opened),
+        Some(_) => Err(NotRun(format!(
             "{name} was made by another version of this program"
         ))),
-        Err(why) if why.kind() == io::ErrorKind::NotFound => Err(NotRun(format!(
+        None => Err(NotRun(format!(
             "{name} holds no results of 'teaselshears audit-all'"
         ))),
-        Err(why) => Err(NotRun(format!("{name} cannot be read: {why}"))),
     }
 }
 
 type Findings = BTreeMap<OsString, Finding>;
 
 /// What is kept, as the proved function finds it now; and what the last run could not keep, or found changed, as its table says.
-fn found(folder: &Path, auditor: &mut Auditor) -> Result<Findings, NotRun> {
+fn found(folder: &Path, opened: &File, auditor: &mut Auditor) -> Result<Findings, NotRun> {
     let mut found = Findings::new();
     for name in kept::names(folder)? {
         if let Some(finding) = kept::found(folder, &name, auditor)? {
             found.insert(name, finding);
         }
     }
-    for told in told(folder)? {
+    for told in told(opened)? {
         let finding = match found.get(&told.batch) {
-            None if told.state.is_verdict() => gone(&told.batch),
+            None if told.state.is_verdict() => damaged(told.batch, "its kept result is gone"),
             None => told,
-            Some(kept) if is_news(&told, kept) => told,
-            Some(_) => continue,
+            Some(kept) => match together(kept, told) {
+                Some(finding) => finding,
+                None => continue,
+            },
         };
         found.insert(finding.batch.clone(), finding);
     }
     Ok(found)
 }
 
-/// Whether what the table says counts and not the kept result: only a run that looked at the spool can say that a batch changed, and
-/// it does not say so of a result that was kept since.
-fn is_news(told: &Finding, kept: &Finding) -> bool {
-    told.state == State::Changed && kept.state != State::Damaged && told.time >= kept.time
+/// What is found of a batch that has a kept result and a row in the table, where that is not what the kept result says by itself.
+/// Only a run that looked at the spool can say that a batch changed or could not be read; and what it accepted or refused is what
+/// was kept.
+fn together(kept: &Finding, told: Finding) -> Option<Finding> {
+    let refused = |finding: &Finding| finding.state == State::Refused;
+    let both = kept.state.is_verdict() && told.state.is_verdict();
+    match told.state {
+        _ if kept.state == State::Damaged => None,
+        State::Changed | State::Failed => Some(told),
+        _ if both && refused(kept) != refused(&told) => Some(damaged(
+            told.batch,
+            "its kept result is not the one that the table is of",
+        )),
+        _ => None,
+    }
 }
 
-fn gone(name: &OsStr) -> Finding {
-    let sentence = "its kept result is gone".to_owned();
-    Finding::none(name.to_owned(), State::Damaged, sentence)
+fn damaged(name: OsString, sentence: &str) -> Finding {
+    Finding::none(name, State::Damaged, sentence.to_owned())
 }
 
 /// What the table says that the last run left, if one has ended.
-fn told(folder: &Path) -> Result<Vec<Finding>, NotRun> {
-    let file = table::FILE;
-    match fs::read(folder.join(file)) {
-        Ok(bytes) => table::findings(&bytes)
-            .ok_or_else(|| NotRun(format!("{file} is not a table of this program"))),
-        Err(why) if why.kind() == io::ErrorKind::NotFound => Ok(Vec::new()),
-        Err(why) => Err(NotRun(format!("{file} cannot be read: {why}"))),
+fn told(folder: &File) -> Result<Vec<Finding>, NotRun> {
+    let name = table::FILE;
+    match files::read_one(folder, name)? {
+        None => Ok(Vec::new()),
+        Some(bytes) => table::findings(&bytes).ok_or_else(|| {
+            let name = name.to_string_lossy();
+            NotRun(format!("{name} is not a table of this program"))
+        }),
     }
 }

@@ -23,6 +23,8 @@ extern "C" {
     fn syncfs(file: c_int) -> c_int;
     fn fcntl(file: c_int, command: c_int, ...) -> c_int;
     fn signal(number: c_int, handler: usize) -> usize;
+    fn unlinkat(folder: c_int, name: *const c_char, flags: c_int) -> c_int;
+    fn geteuid() -> c_uint;
 }
 
 const O_NOCTTY: c_int = 0o400;
@@ -81,6 +83,21 @@ fn open_with(folder: &File, name: &CStr, flags: c_int) -> io::Result<File> {
     }
     // SAFETY: the call has just opened it, and nobody else has it.
     Ok(unsafe { File::from_raw_fd(file) })
+}
+
+/// Removes a file from a folder that is open for reading.
+pub fn remove_in(folder: &File, name: &CStr) -> io::Result<()> {
+    // SAFETY: the folder is open and the name ends in a zero byte.
+    match unsafe { unlinkat(folder.as_raw_fd(), name.as_ptr(), 0) } {
+        0 => Ok(()),
+        _ => Err(io::Error::last_os_error()),
+    }
+}
+
+/// The number of the user whose rights the program has.
+pub fn user() -> u32 {
+    // SAFETY: a call without arguments, which always answers.
+    unsafe { geteuid() }
 }
 
 /// Renames a folder to a name that nothing has. Where the file system cannot see to that in one step, an empty folder of the

@@ -4,10 +4,10 @@ use crate::csv;
 use crate::findings::{Finding, Program, State};
 use crate::shown;
 use crate::time;
-use std::ffi::OsStr;
+use std::ffi::{CStr, OsStr};
 
 /// The file that it stands in.
-pub const FILE: &str = "table.csv";
+pub const FILE: &CStr = c"table.csv";
 
 /// New columns stand at the end, so that whoever reads by places finds the others where they were.
 const HEADING: [&str; 13] = [
@@ -46,8 +46,8 @@ fn row(finding: &Finding) -> String {
         finding.time.clone(),
         finding.sentence.clone(),
         number(finding.open),
-        finding.program.version.clone(),
-        finding.program.library.clone(),
+        shown::cell(OsStr::new(&finding.program.version)),
+        shown::cell(OsStr::new(&finding.program.library)),
     ];
     csv::record(fields.iter().map(String::as_str))
 }

@@ -97,7 +97,7 @@ impl Results {
 
     /// Puts the table in the place of the last one, and ends the work on the folder.
     pub fn keep_table(&self, text: &str) -> Result<(), NotRun> {
-        let file = table::FILE;
+        let file = &*table::FILE.to_string_lossy();
         let new = self.working().join(file);
         let kept = fs::write(&new, text)
             .and_then(|()| self.sync())
@@ -145,7 +145,7 @@ fn lies_in(path: &Path, folder: &Path) -> io::Result<bool> {
 /// Refuses a folder that holds something and is not marked.
 fn may_be_ours(folder: &Path) -> io::Result<()> {
     let mut entries = fs::read_dir(folder)?;
-    if entries.next().is_none() || folder.join(MARKER).is_file() {
+    if entries.next().is_none() || folder.join(&*MARKER.to_string_lossy()).is_file() {
         return Ok(());
     }
     Err(io::Error::other(
@@ -159,7 +159,7 @@ fn locked(folder: &Path) -> io::Result<File> {
         .read(true)
         .append(true)
         .create(true)
-        .open(folder.join(MARKER))?;
+        .open(folder.join(&*MARKER.to_string_lossy()))?;
     let began = Instant::now();
     while !system::try_lock(&marker)? {
         if began.elapsed() > PATIENCE {

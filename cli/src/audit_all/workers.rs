@@ -116,7 +116,7 @@ impl<'a> Work<'a> {
         match Kept::read(&self.results.folder, name) {
             Ok(None) => {}
             Ok(Some(kept)) => return compared(name, &texts, &kept, auditor).map(Found::Kept),
-            Err(damage) => return Ok(Found::Kept(damage.finding(name.to_owned()))),
+            Err(unusable) => return Ok(Found::Kept(unusable.finding(name.to_owned()))),
         }
         let (finding, printed) = auditor.audit(name.to_owned(), &texts)?;
         let prepared = self.results.prepare(&finding, &texts, &printed);

@@ -3,7 +3,7 @@
 
 use crate::system;
 use crate::texts::{self, BATCH};
-use std::ffi::OsStr;
+use std::ffi::{OsStr, OsString};
 use std::fs::{self, File};
 use std::io;
 use std::os::unix::fs::MetadataExt;
@@ -54,19 +54,29 @@ fn lock(path: &Path) -> io::Result<Option<File>> {
     Ok(stays.then_some(folder))
 }
 
-/// Clears away what runs that were killed left in a folder. What cannot be cleared stays: it is in nobody's way.
+/// Clears away what this user's runs that were killed left in a folder. What cannot be cleared stays: it is in nobody's way.
 pub fn clear_left(parent: &Path) {
     let names = texts::names_in(parent).unwrap_or_default();
     for name in names.iter().filter(|name| is_ours(name)) {
         let path = parent.join(name);
-        if let Ok(Some(_lock)) = lock(&path) {
-            for text in BATCH {
-                let _ = fs::remove_file(path.join(text.file()));
-            }
-            // With anything else in it, it is not what a run left, and stays.
-            let _ = fs::remove_dir(&path);
+        if let Ok(Some(folder)) = lock(&path) {
+            let _ = clear(&folder, &path);
         }
     }
+}
+
+/// Removes a folder that a run left; one that holds anything else is not what a run left.
+fn clear(folder: &File, path: &Path) -> io::Result<()> {
+    let is_text = |name: &OsString| BATCH.iter().any(|text| name == text.file());
+    let own = folder.metadata()?.uid() == system::user();
+    if !own || !texts::names_in(path)?.iter().all(is_text) {
+        return Ok(());
+    }
+    for text in BATCH {
+        // In the folder that is locked, whatever its name leads to by now.
+        let _ = system::remove_in(folder, text.c_name());
+    }
+    fs::remove_dir(path)
 }
 
 /// Whether a name is one that a run gives.

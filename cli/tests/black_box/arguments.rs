@@ -24,6 +24,7 @@ tests![
     empty_names,
     folders_named_like_options,
     a_folder_named_by_a_dash,
+    options_that_are_names,
     names_that_a_shell_could_take_for_something_else,
     options_behind_arguments,
     jobs_that_are_numbers,
@@ -166,6 +167,9 @@ fn help_by_its_own_command(room: &Room) -> Done {
             .printed(&help.stdout);
     }
     untouched(room, &["help", "adit"]).does_not_take("is 'audit' meant?");
+    untouched(room, &["help", "help"])
+        .is(0)
+        .printed(&program.stdout);
     untouched(room, &["help", "--help"]).does_not_take("");
     Ok(())
 }
@@ -343,6 +347,12 @@ fn a_folder_named_by_a_dash(room: &Room) -> Done {
     room.batch("place/-", "case-c");
     let ended = program("audit").arg("./-").current_dir(&place).end();
     ended.is(0).printed(expected("case-c"));
+    // Behind two dashes it is a name too, with names on standard input as well.
+    for options in [&["--", "-"][..], &["--json", "--brief", "--", "-"]] {
+        let mut program = program("audit");
+        let ended = program.args(options).current_dir(&place);
+        ended.end_with(b"nowhere\n").is(0);
+    }
     // A dash alone stands for names on standard input, which only --json takes.
     program("audit")
         .arg("-")
@@ -350,6 +360,26 @@ fn a_folder_named_by_a_dash(room: &Room) -> Done {
         .end()
         .is(2)
         .printed("");
+    Ok(())
+}
+
+/// A shell that puts all names in the place of a star puts them before `--`, where one that is an option would be passed over.
+fn options_that_are_names(room: &Room) -> Done {
+    let place = room.folder("place");
+    for name in ["a", "b"] {
+        room.batch(&format!("place/{name}"), "case-c");
+    }
+    let all = || {
+        let mut shell = Command::new("sh");
+        shell.args(["-c", "\"$0\" audit *", PROGRAM]);
+        shell.current_dir(&place).end()
+    };
+    all().is(0);
+    for name in ["--json", "--complete", "--missing-as-empty"] {
+        room.batch(&format!("place/{name}"), "case-b");
+        all().does_not_take(name);
+        fs::remove_dir_all(place.join(name)).unwrap();
+    }
     Ok(())
 }
 

@@ -1,17 +1,20 @@
 //! What runs of `record` leave that were killed: the next one clears it away, and nothing else.
 
-use crate::harness::{tests, Done};
-use crate::room::{check_recorded, example, names, names_in, read, Room};
+use crate::harness::{skip, tests, Done};
+use crate::room::{check_recorded, example, names, names_in, read, tree, Room};
 use crate::run::{program, record};
-use crate::system::lock;
+use crate::system::{is_root, lock};
+use crate::traced::traced;
 use std::fs::{self, File};
-use std::os::unix::fs::symlink;
+use std::os::unix::fs::{chown, symlink};
 use std::process::{Child, Stdio};
 
 tests![
     what_a_killed_run_left,
     what_a_run_is_at_work_on,
     what_is_not_of_a_run,
+    what_another_user_left,
+    a_link_in_the_place_of_what_was_left,
     many_runs_at_once,
 ];
 
@@ -53,6 +56,7 @@ fn what_is_not_of_a_run(room: &Room) -> Done {
     room.file("place/.teaselshears-1-1", "a file");
     room.folder("place/.teaselshears-1-2");
     room.file("place/.teaselshears-1-2/notes.txt", "foreign");
+    room.file("place/.teaselshears-1-2/trace.txt", "foreign");
     let elsewhere = room.folder("elsewhere");
     room.file("elsewhere/trace.txt", "foreign");
     symlink(&elsewhere, place.join(".teaselshears-1-3")).unwrap();
@@ -65,8 +69,51 @@ fn what_is_not_of_a_run(room: &Room) -> Done {
         "out",
     ];
     assert_eq!(names_in(&place), names(there));
-    assert_eq!(read(place.join(".teaselshears-1-2/notes.txt")), b"foreign");
+    for file in ["notes.txt", "trace.txt"] {
+        let path = place.join(".teaselshears-1-2").join(file);
+        assert_eq!(read(path), b"foreign");
+    }
     assert_eq!(read(elsewhere.join("trace.txt")), b"foreign");
+    Ok(())
+}
+
+fn what_another_user_left(room: &Room) -> Done {
+    if !is_root() {
+        return skip("only root may give a folder to another user");
+    }
+    let place = room.folder("place");
+    let left = room.folder("place/.teaselshears-1-0");
+    fs::write(left.join("trace.txt"), "of another").unwrap();
+    chown(&left, Some(65_534), None).unwrap();
+    record(example("case-c"), place.join("out")).is(0);
+    assert_eq!(read(left.join("trace.txt")), b"of another");
+    Ok(())
+}
+
+/// What was left is exchanged for a link to somebody's batch while it is cleared away.
+fn a_link_in_the_place_of_what_was_left(room: &Room) -> Done {
+    let (place, victim) = (room.folder("place"), room.batch("victim", "case-c"));
+    let (left, moved) = (place.join(".teaselshears-1-1"), room.path("moved"));
+    let recording = |out: &str| {
+        let mut program = program("record");
+        program.arg(example("case-c")).arg(place.join(out));
+        program
+    };
+    let before = tree(&victim);
+    let stops = traced(&mut recording("out"), |_, _| {})?.stops;
+    for moment in 0..stops + 10 {
+        for old in [&left, &moved] {
+            let _ = fs::remove_file(old).or_else(|_| fs::remove_dir_all(old));
+        }
+        fs::create_dir(&left).unwrap();
+        fs::write(left.join("programs.txt"), "half").unwrap();
+        traced(&mut recording(&moment.to_string()), |stop, _| {
+            if stop == moment && fs::rename(&left, &moved).is_ok() {
+                symlink(&victim, &left).unwrap();
+            }
+        })?;
+        assert_eq!(tree(&victim), before, "at {moment}");
+    }
     Ok(())
 }
 

@@ -4,7 +4,7 @@ use crate::harness::{tests, Done};
 use crate::json::{brief_objects, objects, text, Object, Value};
 use crate::room::{example, expected_order, read, root, tree, Room};
 use crate::run::{audit_all, program, Ended, Run};
-use crate::system::lock;
+use crate::system::{lock, make_fifo};
 use std::fs::{self, File};
 use std::path::{Path, PathBuf};
 use std::process::Command;
@@ -17,6 +17,9 @@ tests![
     while_a_run_is_at_work,
     results_that_are_written_over,
     what_the_last_run_could_not_keep,
+    a_table_of_an_earlier_version,
+    a_result_under_another_name,
+    what_is_not_a_file,
     a_result_that_is_gone,
     requests_left_open,
     no_results,
@@ -158,13 +161,58 @@ fn what_the_last_run_could_not_keep(room: &Room) -> Done {
     assert_eq!(object["batch"], text("=d\\ \u{e4}"));
     assert_eq!([&object["verdict"], &object["kit"]], [&Value::Null; 2]);
     assert_eq!(listed(&["--state", "accepted"], &kept), [""; 0]);
-    // Audited anew, it is what it is now, before another table is written too.
-    fs::remove_dir_all(kept.join("batches/c")).unwrap();
-    let table = read(kept.join("table.csv"));
-    std::thread::sleep(std::time::Duration::from_millis(1100));
+    // Whatever time was written over, and where a text is not there any more.
+    set_time(&kept, "c", "2999-01-01T00:00:00Z");
+    assert_eq!(listed(&["--state", "changed"], &kept), ["c"]);
+    fs::remove_file(spool.join("c/report.txt")).unwrap();
     audit_all(&spool, &kept).is(2);
-    fs::write(kept.join("table.csv"), table).unwrap();
-    assert_eq!(listed(&["--state", "refused"], &kept), ["b", "a", "c"]);
+    assert_eq!(listed(&["--state", "failed"], &kept).len(), 2);
+    assert_eq!(listed(&["--state", "accepted"], &kept), [""; 0]);
+    // Audited anew, it is what it is now.
+    fs::write(spool.join("c/report.txt"), "").unwrap();
+    fs::remove_dir_all(kept.join("batches/c")).unwrap();
+    audit_all(&spool, &kept).is(2);
+    assert_eq!(listed(&["--verdict", "6"], &kept), ["c"]);
+    Ok(())
+}
+
+/// Tables of versions whose rows without a verdict had no time.
+fn a_table_of_an_earlier_version(room: &Room) -> Done {
+    let (_, kept) = three(room);
+    let heading = "batch,state,verdict,line,requests,operations,blocks,rest,time,sentence,open\r\n";
+    let row = "c,changed,,,,,,,,trace.txt is not the text that was audited,\r\n";
+    fs::write(kept.join("table.csv"), format!("{heading}{row}")).unwrap();
+    assert_eq!(listed(&["--state", "accepted"], &kept), [""; 0]);
+    assert_eq!(listed(&["--state", "changed"], &kept), ["c"]);
+    let since = ["--state", "changed", "--since", "2026-11-16"];
+    assert_eq!(listed(&since, &kept), ["c"], "it has no time to go by");
+    Ok(())
+}
+
+/// A good result under the name of a refused batch is not what the run of the table kept.
+fn a_result_under_another_name(room: &Room) -> Done {
+    let (_, kept) = three(room);
+    for file in ["programs.txt", "trace.txt", "report.txt", "output", "about"] {
+        let from = kept.join("batches/c").join(file);
+        fs::copy(from, kept.join("batches/a").join(file)).unwrap();
+    }
+    assert_eq!(listed(&["--state", "accepted"], &kept), ["c"]);
+    assert_eq!(listed(&["--state", "damaged"], &kept), ["a"]);
+    Ok(())
+}
+
+/// Neither is waited for, as a fifo would have it.
+fn what_is_not_a_file(room: &Room) -> Done {
+    for file in ["table.csv", ".teaselshears"] {
+        let (spool, kept) = (
+            room.spool(&format!("{file}-s"), "case-c", 1),
+            room.path(file),
+        );
+        audit_all(&spool, &kept).is(0);
+        fs::remove_file(kept.join(file)).unwrap();
+        make_fifo(&kept.join(file));
+        results(&[], &kept).could_not(file);
+    }
     Ok(())
 }
 

@@ -21,6 +21,7 @@ tests![
     a_kept_result_whose_output_is_empty,
     a_kept_result_whose_order_is_damaged,
     a_kept_result_whose_bill_is_damaged,
+    a_kept_result_that_cannot_be_read,
     a_kept_result_with_bytes_for_a_terminal,
     a_kept_result_that_lacks_a_file,
     a_kept_result_with_another_text,
@@ -293,6 +294,23 @@ fn a_kept_result_whose_bill_is_damaged(room: &Room) -> Done {
         fs::write(results.join("batches/batch-2/output"), output).unwrap();
         damaged(&spool, &results, "batch-2");
     }
+    Ok(())
+}
+
+/// A result that cannot be read now may be sound, and is not to be removed for that.
+fn a_kept_result_that_cannot_be_read(room: &Room) -> Done {
+    let (spool, results) = kept_spool(room);
+    let output = results.join("batches/batch-2/output");
+    let kept = read(&output);
+    fs::remove_file(&output).unwrap();
+    fs::create_dir(&output).unwrap();
+    let ended = audit_all(&spool, &results);
+    let counts = "2 accepted, 0 refused, 0 changed, 1 failed";
+    counted(ended.is(2), counts);
+    ended.said_part("batch-2: its kept result cannot be used: output cannot be read: ");
+    fs::remove_dir(&output).unwrap();
+    fs::write(&output, kept).unwrap();
+    audit_all(&spool, &results).is(0);
     Ok(())
 }
 

@@ -17,6 +17,7 @@ tests![
     a_result_from_before_reads_were_shown,
     a_result_from_before_requests_were_left_open,
     an_accepting_output_of_another_library,
+    a_version_that_is_a_formula,
 ];
 
 /// What the earliest version printed of case C, and said.
@@ -169,5 +170,18 @@ fn an_accepting_output_of_another_library(room: &Room) -> Done {
             .said_part("1 accepted, 1 refused, 0 changed, 1 outdated, 0 failed");
         assert_eq!(row(&results, "batch-2").state, "outdated");
     }
+    Ok(())
+}
+
+/// What another version calls itself is no formula in the table either.
+fn a_version_that_is_a_formula(room: &Room) -> Done {
+    let (spool, results) = kept_spool(room);
+    put_earlier(&results, EARLIEST, SENTENCE);
+    let path = results.join("batches/batch-2/about");
+    let about = String::from_utf8(read(&path)).unwrap();
+    let formula = about.replace(&format!("version={VERSION}"), "version==1+1");
+    fs::write(path, formula).unwrap();
+    audit_all(&spool, &results).is(0);
+    assert_eq!(row(&results, "batch-2").version, "\\x3d1+1");
     Ok(())
 }
