@@ -43,7 +43,8 @@ impl Stamp {
             true => LONG_STEP,
             false => STEP,
         };
-        let (seconds, nanos) = self.changed.max(self.written);
+        // The other time can be set to any, which changes this one.
+        let (seconds, nanos) = self.changed;
         let since = Duration::new(seconds.max(0) as u64, nanos as u32);
         let age = now.duration_since(UNIX_EPOCH + since);
         age.map_or(true, |age| age <= step).then_some(step)
@@ -181,8 +182,8 @@ mod tests {
         assert_eq!(old.unsettled(at(7, 500_000_000)), Some(STEP));
         // A clock that was set back, or that of another machine.
         assert_eq!(old.unsettled(at(6, 0)), Some(STEP));
-        let written_later = stamp((9, 0), (7, 500_000_000));
-        assert_eq!(written_later.unsettled(at(8, 0)), Some(STEP));
+        let set_to_later = stamp((9, 0), (7, 500_000_000));
+        assert_eq!(set_to_later.unsettled(at(8, 0)), None);
         assert_eq!(stamp((-5, 3), (-5, 3)).unsettled(at(1, 0)), None);
         let whole_seconds = stamp((7, 0), (7, 0));
         assert_eq!(whole_seconds.unsettled(at(9, 0)), Some(LONG_STEP));
