@@ -253,11 +253,11 @@ fn a_library_written_over(room: &Room) -> Done {
 
 /// While a crate is proved it is told, in lines or in the one line of a terminal; and nothing where all is up to date.
 fn how_far_the_proofs_are(room: &Room) -> Done {
-    // The quickest crate, which is then proved again over the one below it.
+    // Small crates, which are then proved again over the one below them.
     let copy = copy(room, &["target/rlib/basics.rlib"])?;
-    let stamp = copy.join("target/stamp/bits");
+    let unproved = |name: &str| fs::remove_file(copy.join("target/stamp").join(name)).unwrap();
     let tool = copy.join("tools/library");
-    fs::remove_file(&stamp).unwrap();
+    unproved("bits");
     let said = Command::new(&tool).end_within(LIMIT).is(0).sentence();
     let words = ["crate bits proved in ", " of ", " s so far"];
     assert!(words.iter().all(|word| said.contains(word)), "{said}");
@@ -273,9 +273,10 @@ fn how_far_the_proofs_are(room: &Room) -> Done {
         script.end_within(LIMIT).is(0).text()
     };
     assert_eq!(on_terminal(), "");
-    fs::remove_file(&stamp).unwrap();
+    // One that takes longer than a second, after which the line is written.
+    unproved("cells");
     let text = on_terminal();
-    assert!(text.contains(" s; next bits\x1b[K"), "{text:?}");
+    assert!(text.contains(" s; next cells\x1b[K"), "{text:?}");
     assert!(!text.contains('\n'), "one line: {text:?}");
     assert!(text.ends_with("\r\x1b[K"), "taken away again: {text:?}");
     Ok(())
