@@ -1,5 +1,7 @@
 // Audits programs.txt, trace.txt and report.txt in the working directory, and prints the result. A missing file is an empty text; one that
 // is there and cannot be read to its end is said on standard error, and then nothing is printed.
+#![tactic(auto)]
+
 ghost use Rattle.std.specs.Prelude.{◌≡◌, length};
 ghost use Rattle.lines.specs.Put.{front};
 ghost use Rattle.verifier.specs.Printed.{printed_text, most_printed};

@@ -43,7 +43,7 @@ pub all-mem : {A : Type 0} (P : A → Type 0) (xs : List A) → ((x : A) → Mem
 all-mem P [] h = tt
 all-mem P (x ∷ xs) h = (h x (Memᴰ.head refl), all-mem P xs (λ y m. h y (Memᴰ.tail m)))
 
-pub mem-all : {A : Type 0} (P : A → Type 0) {xs : List A} {x : A} → All P xs → Memᴰ x xs → P x
+pub mem-all : {A : Type 0} (P : A → Type 0) {x : A} {xs : List A} → All P xs → Memᴰ x xs → P x
 mem-all P h (Memᴰ.head e) = subst P (sym e) h.0
 mem-all P h (Memᴰ.tail m) = mem-all P h.1 m
 

@@ -1,5 +1,7 @@
 // What every crate uses. Definitions and laws: lists, counts, the first items of a sequence, choices, maps, chains, scans and tests.
 // Functions: the smaller of two numbers, and narrow numbers widened.
+#![tactic(auto)]
+
 ghost use Rattle.std.specs.Prelude.{◌≡◌, min};
 
 pub fn least(x: usize, y: usize) -> usize

@@ -1,4 +1,6 @@
 // Operations on the bits of 64-bit numbers, with laws of bits for every place (proofs/Places.antt).
+#![tactic(auto)]
+
 ghost use Rattle.std.specs.Prelude.{◌≡◌, ◌+◌, ◌/◌};
 
 // Half the sum, which fits where the sum may not: the common bits, and half of those that differ.

@@ -1,4 +1,6 @@
 // The audit and the reference host for programs in Rust and C. A slice passes as its address and its length, a number as itself.
+#![tactic(auto)]
+
 mod numbers;
 
 ghost use Rattle.std.specs.Prelude.{◌≡◌, ◌↔◌, get_or, length};

@@ -1,5 +1,7 @@
 // Files in the working directory as the programs read them: a missing file is an empty text; one that is there and cannot be read to its
 // end is said on standard error. And what a program made, written to standard output.
+#![tactic(auto)]
+
 ghost use Rattle.std.specs.Prelude.{◌≡◌, min, length, take};
 ghost use Rattle.io.specs.Counts.{IsPrefixLen};
 ghost use Rattle.files.specs.Fits.{Fits};

@@ -1,4 +1,6 @@
 // The reference host: the run of a schedule, and the trace and the report that it writes.
+#![tactic(auto)]
+
 mod limits;
 mod logs;
 mod outputs;

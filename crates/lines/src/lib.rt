@@ -1,4 +1,6 @@
 // Decimal numbers and lines: reading at a place of a text, and writing to the front of a lent buffer.
+#![tactic(auto)]
+
 mod lines;
 mod numbers;
 mod writer;

@@ -1,4 +1,6 @@
 // The machine: the program rules, one instruction, what a request comes to, and the objects.
+#![tactic(auto)]
+
 mod instructions;
 mod limits;
 mod objects;

@@ -1,5 +1,7 @@
 // The merge of items that stand in two queues each, a lane (0 the trace, 1 + o the log of object o) and a request: an item is taken when it
 // is the first of its lane and next in its request, the smallest position first. Log lines stand in report order before the trace events.
+#![tactic(auto)]
+
 ghost use Rattle.std.specs.Prelude.{◌≡◌, min, length};
 ghost use Rattle.ordering.specs.Positions.{order_in, counts_of, lanes, merged_items};
 ghost use Rattle.ordering.specs.Heads.{link_of, least_of};

@@ -1,6 +1,8 @@
 // Runs the schedule of schedule.txt with the programs of programs.txt, both in the working directory, and prints the result, the trace and
 // the report. A missing file is an empty text; one that is there and cannot be read to its end is said on standard error, and then nothing
 // is printed.
+#![tactic(auto)]
+
 ghost use Rattle.std.specs.Prelude.{◌≡◌, length};
 ghost use Rattle.lines.specs.Put.{front};
 ghost use Rattle.host.specs.Printed.{run_printed, most_printed};

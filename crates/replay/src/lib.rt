@@ -1,4 +1,6 @@
 // Rows 8 to 12 of the audit, on a batch that stands in arrays: the counts, the order, and the replay of each request.
+#![tactic(auto)]
+
 mod claims;
 mod counts;
 mod limits;

@@ -1,4 +1,6 @@
 // Rows 4, 6 and 7 of the audit, on a trace and a report that stand in arrays.
+#![tactic(auto)]
+
 mod reports;
 mod traces;
 

@@ -1,4 +1,6 @@
 // The four texts: programs, trace, report and schedule, read whole.
+#![tactic(auto)]
+
 mod codes;
 mod kinds;
 mod limits;

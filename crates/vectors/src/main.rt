@@ -4,6 +4,8 @@
 // A file of vectors is one vector after the other. A vector is a header and its texts. The header is a name that ends in '=', numbers
 // parted by commas, and a line feed. A batch has three numbers, the lengths of programs, trace and report; a schedule has four, the lengths
 // of programs and schedule and of the buffers that are lent for trace and report. The texts follow with nothing between them.
+#![tactic(auto)]
+
 mod batches;
 mod checksums;
 mod containers;

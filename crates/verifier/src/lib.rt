@@ -1,4 +1,6 @@
 // The audit: the first fault of programs, trace and report, in the order of the scope's table.
+#![tactic(auto)]
+
 mod audits;
 mod orders;
 mod printing;

@@ -1,4 +1,6 @@
 // A trace and a report from the arrays of records, the verdict with its line, and an order, written to the front of a lent buffer.
+#![tactic(auto)]
+
 mod orders;
 mod reports;
 mod traces;
