@@ -68,7 +68,7 @@ pub fn put_number(out: &mut [u8], v: u64) -> Put
 }
 
 // The numbers of a line: the first n of v, six at most.
-#[derive(Drop)]
+#[derive(Clone, Copy)]
 pub struct Fields {
     pub n: usize,
     pub v: [u64; 6],

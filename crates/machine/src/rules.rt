@@ -10,7 +10,7 @@ use basics::least;
 use text::{CODES, INSTRUCTIONS, Instr, OBJECTS, PROGRAMS, Programs, REPLY};
 
 // What a field of an instruction names.
-#[derive(Drop)]
+#[derive(Clone, Copy)]
 pub enum Field {
     Unused,
     Constant,
@@ -20,7 +20,7 @@ pub enum Field {
     Target,
 }
 
-#[derive(Drop)]
+#[derive(Clone, Copy)]
 pub struct Fields {
     pub a: Field,
     pub b: Field,

@@ -20,14 +20,14 @@ pub struct Arrival {
 }
 
 // What a request was answered with: nothing, or a status and a value.
-#[derive(Drop)]
+#[derive(Clone, Copy)]
 pub enum Replied {
     Silent,
     Said(u64, u64),
 }
 
 // How a replay comes out: not as the report has it, or with a reply and so many instructions carried out.
-#[derive(Drop)]
+#[derive(Clone, Copy)]
 pub enum End {
     Differs,
     Ended(Replied, usize),

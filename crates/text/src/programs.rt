@@ -14,7 +14,7 @@ use lines::{Place, line_at};
 const LAST_PROGRAM: usize = PROGRAMS - 1;
 
 // do=code,a,b,c
-#[derive(Drop)]
+#[derive(Clone, Copy)]
 pub struct Instr {
     pub code: u64,
     pub a: u64,
@@ -23,7 +23,7 @@ pub struct Instr {
 }
 
 // program=number, and its instructions: the first n of code.
-#[derive(Drop)]
+#[derive(Clone, Copy)]
 pub struct Program {
     pub number: u64,
     pub n: usize,
@@ -31,7 +31,7 @@ pub struct Program {
 }
 
 // What was read: the first n of table; or the unreadable line.
-#[derive(Drop)]
+#[derive(Clone, Copy)]
 pub struct Programs {
     pub ok: bool,
     pub line: u64,

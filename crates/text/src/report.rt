@@ -22,7 +22,7 @@ pub struct Of {
 }
 
 // What a log line says was done: the object, the code as kind, the key and the value.
-#[derive(Drop)]
+#[derive(Clone, Copy)]
 pub struct Op {
     pub object: u64,
     pub kind: u64,

@@ -19,7 +19,7 @@ const FIRST_ARRIVAL: u32 = RIDS as u32;
 const ARRIVAL_NUMBERS: u64 = ARRIVALS as u64;
 
 // arrive=rid,prog,a,b or turn=rid
-#[derive(Drop)]
+#[derive(Clone, Copy)]
 pub enum Move {
     Arrive { rid: u64, prog: u64, a: u64, b: u64 },
     Turn { rid: u64 },

@@ -12,7 +12,7 @@ use crate::limits::{
 use lines::{Place, line_at};
 
 // request=rid,prog,a,b or response=rid,status,value
-#[derive(Drop)]
+#[derive(Clone, Copy)]
 pub enum Event {
     Request { rid: u64, prog: u64, a: u64, b: u64 },
     Response { rid: u64, status: u64, value: u64 },

@@ -12,7 +12,7 @@ pub use text::TEXT_ROOM;
 
 // What the audit finds: the number of the verdict with its line, and on acceptance how many `request` and how many `log` lines there are, the
 // latter also in whole hundreds and what is left over.
-#[derive(Drop)]
+#[derive(Clone, Copy)]
 pub struct Audited {
     pub verdict: u64,
     pub line: u64,
