@@ -4,8 +4,8 @@ use lib.Bits.{xor_add_and}
 use Rattle.bits.proofs.half_sum.Statement.{statement}
 use Rattle.bits.proofs.half_sum.Tie as tie
 
-pub half-sum-spec : {M : Type 1} → statement M
-half-sum-spec =
+pub half_sum_spec : {M : Type 1} → statement M
+half_sum_spec =
     tie.close
     (tie.spec
     (λ c. omega (arith, xor_add_and c.args.a c.args.b))

@@ -18,20 +18,22 @@ first-exactly : {P : Type 0} (a : Audited) (s u : List ℕ) → u ≡ front (aud
 unfolding front
 first-exactly {P} a s u e h = subst (λ u. (get_or u 0 0 ≡ 0) ↔ P) (sym e) h
 
-returns : tie.Need-returns
-returns c = (no_room 6 _ _ _ c.if1.true, (no_room 6 _ _ _ c.if1.true, λ e. absurd (omega (arith, e))))
+returns : tie.Need-returns-then-out-lt6
+returns c = (no_room 6 _ _ _ c.if-out-lt6.true, (no_room 6 _ _ _ c.if-out-lt6.true, λ e. absurd (omega (arith, e))))
 
-returns-2 : tie.Need-returns-2
+returns-2 : tie.Need-returns
 returns-2 c =
-    let at-fill-audited = c.before.before in
-    let at-audit = at-fill-audited.before in
-    let at-if1 = at-audit.before.before in
-    let a = at-audit.audit in
-    let h = at-if1.if1.false in
-    let f = at-fill-audited.fill-audited.ensures in (
+    let a = c.audit in
+    let h = c.if-out-lt6.false in
+    let f = c.fill_audited.ensures in (
       room 6 _ _ _ h,
       (handed-in _ _ _ _ (ap audit_numbers a.ensures.0) f h, λ e. first-exactly _ _ _ f a.ensures.1),
     )
 
-pub teaselshears-audit-spec : {M : Type 1} → statement M
-teaselshears-audit-spec = tie.close (tie.spec returns (λ c κs. search rules) (λ c κs. search rules) (λ c. search rules) returns-2)
+pub teaselshears_audit_spec : {M : Type 1} → statement M
+teaselshears_audit_spec = tie.close (tie.spec
+    returns
+    (λ c κs. search rules)
+    (λ c κs. search rules)
+    (λ c. search rules)
+    returns-2)

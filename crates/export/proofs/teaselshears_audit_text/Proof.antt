@@ -6,7 +6,11 @@ use Rattle.export.proofs.teaselshears_audit_text.Statement.{statement}
 use Rattle.export.proofs.teaselshears_audit_text.Tie as tie
 
 returns : tie.Need-returns
-returns c = printed-is _ _ _ _ _ (text-some _ _ _) c.before.before.before.audit-text.ensures.0 c.written.ensures
+returns c = printed-is _ _ _ _ _ (text-some _ _ _) c.audit_text.ensures.0 c.written.ensures
 
-pub teaselshears-audit-text-spec : {M : Type 1} → statement M
-teaselshears-audit-text-spec = tie.close (tie.spec (λ c κs. search rules) (λ c κs. search rules) (λ c. search rules) returns)
+pub teaselshears_audit_text_spec : {M : Type 1} → statement M
+teaselshears_audit_text_spec = tie.close (tie.spec
+    (λ c κs. search rules)
+    (λ c κs. search rules)
+    (λ c. search rules)
+    returns)

@@ -5,26 +5,23 @@ use borrow.Author.Rules.{rules}
 use Rattle.export.proofs.teaselshears_order.Statement.{statement}
 use Rattle.export.proofs.teaselshears_order.Tie as tie
 
-returns : tie.Need-returns
-returns c = (not-placed _ _ _ _ c.if1.true, λ e. absurd (omega (arith, e)))
+returns : tie.Need-returns-then-out-lt7
+returns c = (not-placed _ _ _ _ c.if-out-lt7.true, λ e. absurd (omega (arith, e)))
 
-returns-2 : tie.Need-returns-2
+returns-2 : tie.Need-returns-in_default
 returns-2 c =
-    let at-audit-order = c.before.before.before.before in
-    (not-ordered _ _ _ _ _ _ at-audit-order.audit-order.ensures.1.0 c.enum_told.given.1, λ e. absurd (omega (arith, e)))
+    (not-ordered _ _ _ _ _ _ c.audit_order-r.ensures.1.0 c.enum_told-1.given.1, λ e. absurd (omega (arith, e)))
 
-returns-3 : tie.Need-returns-3
+returns-3 : tie.Need-returns
 returns-3 c =
-    let f = c.before.before.fill-audited.ensures in
-    let at-written = c.before.before.before.before.before in
-    let at-audit-order = at-written.before.before.before.before in
-    let r = at-audit-order.audit-order.ensures in (
-      ordered _ _ _ _ _ _ r.1.0 _ at-written.written.given.1 _ r.0 at-audit-order.before.before.if1.false _ f,
+    let f = c.fill_audited.ensures in
+    let r = c.audit_order-r.ensures in (
+      ordered _ _ _ _ _ _ r.1.0 _ c.written-1.given.1 _ r.0 c.if-out-lt7.false _ f,
       λ e. first-number _ _ _ _ f r.1.1,
     )
 
-pub teaselshears-order-spec : {M : Type 1} → statement M
-teaselshears-order-spec =
+pub teaselshears_order_spec : {M : Type 1} → statement M
+teaselshears_order_spec =
     tie.close
     (tie.spec
     returns

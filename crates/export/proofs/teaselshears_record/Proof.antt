@@ -5,20 +5,19 @@ use borrow.Author.Rules.{rules}
 use Rattle.export.proofs.teaselshears_record.Statement.{statement}
 use Rattle.export.proofs.teaselshears_record.Tie as tie
 
-returns : tie.Need-returns
-returns c = (not-handed _ _ _ _ c.if1.true, λ e. absurd (omega (arith, e)))
+returns : tie.Need-returns-then-out-lt4
+returns c = (not-handed _ _ _ _ c.if-out-lt4.true, λ e. absurd (omega (arith, e)))
 
-returns-2 : tie.Need-returns-2
+returns-2 : tie.Need-returns
 returns-2 c =
-    let f = c.before.before.fill-four.ensures in
-    let r = c.before.before.before.before.before.before.before.before in
-    let h = r.before.before.before.if1.false in (
-      record-handed _ _ _ _ _ _ _ _ r.«record».ensures.0 f h,
-      λ e z. handed-accepted _ _ _ _ _ _ _ f r.«record».ensures.1 z,
+    let f = c.fill_four.ensures in
+    let h = c.if-out-lt4.false in (
+      record-handed _ _ _ _ _ _ _ _ c.«record».ensures.0 f h,
+      λ e z. handed-accepted _ _ _ _ _ _ _ f c.«record».ensures.1 z,
     )
 
-pub teaselshears-record-spec : {M : Type 1} → statement M
-teaselshears-record-spec =
+pub teaselshears_record_spec : {M : Type 1} → statement M
+teaselshears_record_spec =
     tie.close
     (tie.spec
     returns

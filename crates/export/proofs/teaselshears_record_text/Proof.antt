@@ -6,7 +6,11 @@ use Rattle.export.proofs.teaselshears_record_text.Statement.{statement}
 use Rattle.export.proofs.teaselshears_record_text.Tie as tie
 
 returns : tie.Need-returns
-returns c = printed-is _ _ _ _ _ (printed-some _) c.before.before.before.record-text.ensures.0 c.written.ensures
+returns c = printed-is _ _ _ _ _ (printed-some _) c.record_text.ensures.0 c.written.ensures
 
-pub teaselshears-record-text-spec : {M : Type 1} → statement M
-teaselshears-record-text-spec = tie.close (tie.spec (λ c κs. search rules) (λ c κs. search rules) (λ c. search rules) returns)
+pub teaselshears_record_text_spec : {M : Type 1} → statement M
+teaselshears_record_text_spec = tie.close (tie.spec
+    (λ c κs. search rules)
+    (λ c κs. search rules)
+    (λ c. search rules)
+    returns)

@@ -4,32 +4,31 @@ use Rattle.ordering.proofs.Search.{Searching, searching-start, searching-found, 
 use Rattle.ordering.proofs.least.Statement.{statement}
 use Rattle.ordering.proofs.least.Tie as tie
 
-abbrev invariant-loop : tie.invariant-loop
+abbrev invariant-loop : tie.invariant-loop-l
 invariant-loop request number stage head n m found₀ best₀ l₀ found best l = Searching request number stage head n found best l
 
-abbrev decreases-loop : tie.decreases-loop
+abbrev decreases-loop : tie.decreases-loop-l
 decreases-loop request number stage head n m found₀ best₀ l₀ found best l = 17 - l
 
-loop-holds : tie.Need-loop-init invariant-loop decreases-loop
+loop-holds : tie.Need-loop-l-init invariant-loop decreases-loop
 loop-holds c = searching-start _ _ _ _ _ _ (search rules)
 
-loop-again : tie.Need-loop-preserved invariant-loop decreases-loop
+loop-again : tie.Need-loop-l-preserved-then-number-x invariant-loop decreases-loop
 loop-again c =
-    let at-loop = c.before.before.before.before.before.before.before.before.before in
-    searching-found _ _ _ _ _ at-loop.loop.found at-loop.loop.best _ _
-    (search rules) (search rules) (search rules) _ (search rules) (search rules) c.if2.true
+    searching-found _ _ _ _ _ c.loop-l.found c.loop-l.best _ _
+    (search rules) (search rules) (search rules) _ (search rules) (search rules) c.if-number-x.true
 
-loop-again-2 : tie.Need-loop-preserved-2 invariant-loop decreases-loop
-loop-again-2 c = searching-other _ _ _ _ _ _ _ _ _ (search rules) (search rules) (search rules) _ (search rules) c.if2.false
+loop-again-2 : tie.Need-loop-l-preserved-else-number-x invariant-loop decreases-loop
+loop-again-2 c = searching-other _ _ _ _ _ _ _ _ _ (search rules) (search rules) (search rules) _ (search rules) c.if-number-x.false
 
-loop-again-3 : tie.Need-loop-preserved-3 invariant-loop decreases-loop
-loop-again-3 c = searching-past _ _ _ _ _ _ _ _ c.before.index_of.result (search rules) (search rules) (search rules) (search rules)
+loop-again-3 : tie.Need-loop-l-preserved invariant-loop decreases-loop
+loop-again-3 c = searching-past _ _ _ _ _ _ _ _ c.index_of-x.result (search rules) (search rules) (search rules) (search rules)
 
 returns : tie.Need-returns invariant-loop decreases-loop
-returns c = searching-end _ _ _ _ _ _ _ _ (search rules) c.before.loop.invariant
+returns c = searching-end _ _ _ _ _ _ _ _ (search rules) c.loop-l.invariant
 
-pub least-spec : {M : Type 1} → statement M
-least-spec =
+pub least_spec : {M : Type 1} → statement M
+least_spec =
     tie.close
     (tie.spec
     invariant-loop

@@ -8,14 +8,14 @@ use Rattle.ordering.proofs.Merging.{Merging, merging_start, merging-stop, mergin
 use Rattle.ordering.proofs.merge.Statement.{statement}
 use Rattle.ordering.proofs.merge.Tie as tie
 
-abbrev invariant-loop : tie.invariant-loop
+abbrev invariant-loop : tie.invariant-loop-k
 invariant-loop lane request number out₀ n head₀ after stage₀ k₀ out head stage k =
     (length out ≡ length out₀) × (Merging lane request number n out₀ after out head stage k)
 
-abbrev decreases-loop : tie.decreases-loop
+abbrev decreases-loop : tie.decreases-loop-k
 decreases-loop lane request number out₀ n head₀ after stage₀ k₀ out head stage k = n - k
 
-loop-holds : tie.Need-loop-init invariant-loop decreases-loop
+loop-holds : tie.Need-loop-k-init invariant-loop decreases-loop
 loop-holds c = (
   refl,
   merging_start _ _ _ _ _ _ _ (search rules) (search rules) (search rules)
@@ -23,58 +23,51 @@ loop-holds c = (
 )
 
 -- the way back from where the least head was looked for
-abbrev at-loop : tie.After-least invariant-loop decreases-loop → tie.At-loop invariant-loop decreases-loop
-at-loop r = r.before.before.before.before
 
 -- and from the loop
-abbrev at-fewest2 : tie.At-loop invariant-loop decreases-loop → tie.After-fewest2 invariant-loop decreases-loop
-at-fewest2 r = r.before.before.before.before
 
-returns : tie.Need-returns invariant-loop decreases-loop
+returns : tie.Need-returns-then-l-ge-LANES invariant-loop decreases-loop
 returns c =
-    let at_least_lem = c.before in
     merging-stop _ _ _ _ _ _ _ _ _ _ _ _
-    (search rules) (at-loop at_least_lem).loop.invariant.1 at_least_lem.least.ensures c.if1.true
+    (search rules) c.loop-k.invariant.1 c.least-f.ensures c.if-l-ge-LANES.true
 
 -- the item that was found is one of the n
-found : (c : tie.Else1 invariant-loop decreases-loop) → c.before.least.result.item < (at-fewest2 (at-loop c.before)).fewest2.result
+found : (c : tie.Else-l-ge-LANES invariant-loop decreases-loop) → c.least-f.result.item < c.fewest-n.result
 found c =
-    let at_least_lem = c.before in
-    (merging-leads _ _ _ _ _ _ _ _ _ _ _ (at-loop at_least_lem).loop.invariant.1 at_least_lem.least.ensures c.if1.false).item
+    (merging-leads _ _ _ _ _ _ _ _ _ _ _ c.loop-k.invariant.1 c.least-f.ensures c.if-l-ge-LANES.false).item
 
-shared-slice-read-index-of-byte : tie.Need-shared-slice-read-index-of-byte invariant-loop decreases-loop
+shared-slice-read-index-of-byte : tie.Need-bounds-request-x invariant-loop decreases-loop
 shared-slice-read-index-of-byte c = omega (arith, found c.before)
 
-cast-out : tie.Need-overflow-cast-out invariant-loop decreases-loop
+cast-out : tie.Need-overflow_cast-out invariant-loop decreases-loop
 cast-out c = record { fits = omega (arith, found c.before.before) }
 
-mul-head : tie.Need-overflow-mul-head invariant-loop decreases-loop
+mul-head : tie.Need-offset_bounds-after-x invariant-loop decreases-loop
 mul-head c = record { fits = omega (arith, found c.before.before) }
 
-array-read-head : tie.Need-array-read-head invariant-loop decreases-loop
+array-read-head : tie.Need-bounds-after-x invariant-loop decreases-loop
 array-read-head c = omega (arith, found c.before.before)
 
-add-stage : tie.Need-overflow-add-stage invariant-loop decreases-loop
+add-stage : tie.Need-overflow_add-stage invariant-loop decreases-loop
 add-stage c = record {
-  fits = omega (arith, (at-loop c.before.before.before).loop.inv.1.small (c.index-of-byte.result % 64));
+  fits = omega (arith, c.loop-k.invariant.1.small (c.index_of_byte-r.result % 64));
 }
 
-loop-again : tie.Need-loop-preserved invariant-loop decreases-loop
+loop-again : tie.Need-loop-k-preserved invariant-loop decreases-loop
 loop-again c =
-    let at_least_lem = c.before.before.before in
-    let l = (at-loop at_least_lem).loop in (
-      simp length-set l.inv.0,
+    let l = c.loop-k in (
+      simp length-set l.invariant.0,
       merging-taken _ _ _ _ _ _ _ _ _ _ _ _ (search rules) (search rules)
-          l.inv.1 at_least_lem.least.ensures c.before.before.if1.false,
+          l.invariant.1 c.least-f.ensures c.if-l-ge-LANES.false,
     )
 
-returns-2 : tie.Need-returns-2 invariant-loop decreases-loop
+returns-2 : tie.Need-returns invariant-loop decreases-loop
 returns-2 c =
-    merging-end _ _ _ (at-fewest2 c.before).fewest2.result _ _ _ _ _ _ _
-    (search rules) (search rules) c.before.loop.invariant.1
+    merging-end _ _ _ c.fewest-n.result _ _ _ _ _ _ _
+    (search rules) (search rules) c.loop-k.invariant.1
 
-pub merge-spec : {M : Type 1} → statement M
-merge-spec =
+pub merge_spec : {M : Type 1} → statement M
+merge_spec =
     tie.close
     (tie.spec
     invariant-loop

@@ -5,12 +5,11 @@ use Rattle.replay.proofs.order_items.Tie as tie
 
 returns : tie.Need-returns
 returns c =
-    let at-least3 = c.before.before in
-    rw (← at-least3.before.before.least.ensures, ← at-least3.before.least2.ensures, ← at-least3.least3.ensures)
+    rw (← c.least-t.ensures, ← c.least-m.ensures, ← c.least-n.ensures)
     c.put_order.ensures.1
 
-pub order-items-spec : {M : Type 1} → statement M
-order-items-spec =
+pub order_items_spec : {M : Type 1} → statement M
+order_items_spec =
     tie.close
     (tie.spec
     (λ c κs. search rules)

@@ -8,20 +8,18 @@ use Rattle.cells.proofs.stores.look.Statement.{statement}
 use Rattle.cells.proofs.stores.look.Tie as tie
 
 -- the place that `find` gives
-module _ (p : tie.After-find) where
-  abbrev at-bucket : tie.After-bucket
-  at-bucket = p.before.before.before
+module _ (p : tie.After-find-p) where
 
   is-place : {used : ℕ} {contents : Contents} →
-      let a = at-bucket.before.args in
-      Holds a.rows.now a.buckets.now used contents → p.find.result ≡ place_of a.rows.now used a.object a.key
-  is-place h = found h _ _ _ _ _ at-bucket.bucket.ensures p.before.index_of.ensures p.find.ensures
+      let a = p.args in
+      Holds a.rows.now a.buckets.now used contents → p.find-p.result ≡ place_of a.rows.now used a.object a.key
+  is-place h = found h _ _ _ _ _ p.bucket.ensures p.index_of.ensures p.find-p.ensures
 
-returns : tie.Need-returns
-returns c = λ used contents h. sym (is_never h _ _ _ (is-place c.before h) c.if1.true)
+returns : tie.Need-returns-then-p-eq0
+returns c = λ used contents h. sym (is_never h _ _ _ (is-place c.before h) c.if-p-eq0.true)
 
-returns-2 : tie.Need-returns-2
-returns-2 c = λ used contents h. sym (is-put h _ _ _ (is-place c.before.before h) c.before.if1.false)
+returns-2 : tie.Need-returns
+returns-2 c = λ used contents h. sym (is-put h _ _ _ (is-place c.before.before.before h) c.if-p-eq0.false)
 
 pub look_spec : {M : Type 1} → statement M
 look_spec =

@@ -6,32 +6,24 @@ use borrow.Author.Rules.{rules}
 use Rattle.cells.proofs.stores.put.Statement.{statement}
 use Rattle.cells.proofs.stores.put.Tie as tie
 
-returns : tie.Need-returns
+returns : tie.Need-returns-then-p-gt0
 returns c = λ contents h.
-    let w = c.before.before.before in
-    let b = w.before.before in
-    let a = b.before.args in
+    let a = c.args in
     put-changed h a.object a.key a.value _
-    (found h a.object a.key _ _ _ b.bucket.ensures w.index_of.ensures c.before.find.ensures) (λ z. omega arith)
+    (found h a.object a.key _ _ _ c.bucket-b.ensures c.index_of-head.ensures c.find-p.ensures) (λ z. omega arith)
 
-returns-2 : tie.Need-returns-2
+returns-2 : tie.Need-returns-then-used-ge-CELLS
 returns-2 c = λ contents h.
-    let f = c.before.before in
-    let w = f.before.before in
-    let b = w.before.before in
-    let a = b.before.args in
+    let a = c.args in
     put_full h a.object a.key a.value _
-    (found h a.object a.key _ _ _ b.bucket.ensures w.index_of.ensures f.find.ensures) (omega arith) c.if2.true
+    (found h a.object a.key _ _ _ c.bucket-b.ensures c.index_of-head.ensures c.find-p.ensures) (omega arith) c.if-used-ge-CELLS.true
 
-returns-3 : tie.Need-returns-3
+returns-3 : tie.Need-returns
 returns-3 c = λ contents h.
-    let f = c.before.before.before.before in
-    let w = f.before.before in
-    let b = w.before.before in
-    let a = b.before.args in
+    let a = c.args in
     put-added h a.object a.key a.value _
-    (found h a.object a.key _ _ _ b.bucket.ensures w.index_of.ensures f.find.ensures) (omega arith) (omega arith) _ _ _
-    b.bucket.ensures w.index_of.ensures c.put-cell.ensures
+    (found h a.object a.key _ _ _ c.bucket-b.ensures c.index_of-head.ensures c.find-p.ensures) (omega arith) (omega arith) _ _ _
+    c.bucket-b.ensures c.index_of-head.ensures c.put_cell.ensures
 
 pub put_spec : {M : Type 1} → statement M
 put_spec =

@@ -17,15 +17,15 @@ four a b c d (w ∷ x ∷ []) h = absurd (omega arith)
 four a b c d (w ∷ x ∷ y ∷ []) h = absurd (omega arith)
 four a b c d (w ∷ x ∷ y ∷ z ∷ s) h = refl
 
-slice-write-out-2 : tie.Need-slice-write-out-2
+slice-write-out-2 : tie.Need-bounds-out-1
 slice-write-out-2 c = omega (arith, c.requires, length-set c.args.out.now 0 c.args.a)
 
-slice-write-out-3 : tie.Need-slice-write-out-3
+slice-write-out-3 : tie.Need-bounds-out-2
 slice-write-out-3 c =
     let a = c.args in
     omega (arith, c.requires, length-set a.out.now 0 a.a, length-set (set a.out.now 0 a.a) 1 a.b)
 
-slice-write-out-4 : tie.Need-slice-write-out-4
+slice-write-out-4 : tie.Need-bounds-out-3
 slice-write-out-4 c =
     let a = c.args in
     let s = set a.out.now 0 a.a in
@@ -34,7 +34,13 @@ slice-write-out-4 c =
 returns : tie.Need-returns
 returns c = four _ _ _ _ _ (search rules)
 
-pub fill-four-spec : {M : Type 1} → statement M
-fill-four-spec =
+pub fill_four_spec : {M : Type 1} → statement M
+fill_four_spec =
     tie.close
-    (tie.spec (λ c. search rules) slice-write-out-2 slice-write-out-3 slice-write-out-4 (λ c. search rules) returns)
+    (tie.spec
+    (λ c. search rules)
+    slice-write-out-2
+    slice-write-out-3
+    slice-write-out-4
+    (λ c. search rules)
+    returns)

@@ -9,57 +9,49 @@ use borrow.Author.Rules.{rules}
 use Rattle.host.proofs.logs.put_object.Statement.{statement}
 use Rattle.host.proofs.logs.put_object.Tie as tie
 
-abbrev invariant-loop : tie.invariant-loop
+abbrev invariant-loop : tie.invariant-loop-i
 invariant-loop logs n object out₀ at at₀ i₀ out at' i = (i ≤ n) × Picked logs i object out₀ at out at'
 
-abbrev decreases-loop : tie.decreases-loop
+abbrev decreases-loop : tie.decreases-loop-i
 decreases-loop logs n object out₀ at at₀ i₀ out at' i = n - i
 
-loop-holds : tie.Need-loop-init invariant-loop decreases-loop
+loop-holds : tie.Need-loop-i-init invariant-loop decreases-loop
 loop-holds c = (omega arith, none_yet _ _ _ _ _ c.requires)
 
 -- the way back from where a line was read
-abbrev at-loop : tie.After-entry-at invariant-loop decreases-loop → tie.At-loop invariant-loop decreases-loop
-at-loop p = p.before.before
 
 -- a line of the object has room
-module _ (p : tie.Then1 invariant-loop decreases-loop) where
-  abbrev at-entry-at : tie.After-entry-at invariant-loop decreases-loop
-  at-entry-at = p.before.before
+module _ (p : tie.Then-l-object invariant-loop decreases-loop) where
 
   own :
-      let h = at-loop at-entry-at in
-      let a = h.before.args in
-      (entry_at a.logs.now h.loop.i).op.object ≡ a.object
-  own = ap (λ l. l.op.object) (sym at-entry-at.entry_at.ensures) ∙ p.if1.taken
+      let a = p.args in
+      (entry_at a.logs.now p.loop-i.i).op.object ≡ a.object
+  own = ap (λ l. l.op.object) (sym p.entry_at-l.ensures) ∙ p.if-l-object.true
 
-  fits : (at-loop at-entry-at).loop.at < 1024
+  fits : p.loop-i.at < 1024
   fits =
-      let h = at-loop at-entry-at in
-      own-fits _ _ _ _ _ _ _ h.loop.inv.1 _ h.before.pre at-entry-at.before.loop-test.taken own
+      own-fits _ _ _ _ _ _ _ p.loop-i.invariant.1 _ p.pre p.loop-i-test.true own
 
-add_at : tie.Need-overflow-add-at invariant-loop decreases-loop
+add_at : tie.Need-overflow_add-at invariant-loop decreases-loop
 add_at c = omega (arith, fits c.before.before)
 
-loop-again : tie.Need-loop-preserved invariant-loop decreases-loop
+loop-again : tie.Need-loop-i-preserved-then-l-object invariant-loop decreases-loop
 loop-again c =
-    let p = c.before.before in
-    let h = at-loop (at-entry-at p) in (
+    (
       omega arith,
-      own-joins _ _ _ _ _ _ _ h.loop.inv.1 (fits p) (own p) _
-          (c.put-entry.ensures ∙ ap (with_entry h.loop.out h.loop.at) (at-entry-at p).entry_at.ensures),
+      own-joins _ _ _ _ _ _ _ c.loop-i.invariant.1 (fits c.before.before) (own c.before.before) _
+          (c.put_entry.ensures ∙ ap (with_entry c.loop-i.out c.loop-i.at) c.entry_at-l.ensures),
     )
 
-loop-again-2 : tie.Need-loop-preserved-2 invariant-loop decreases-loop
+loop-again-2 : tie.Need-loop-i-preserved invariant-loop decreases-loop
 loop-again-2 c =
-    let p = c.before.before in
-    (omega arith, other-stays _ _ _ _ _ _ _ (at-loop p).loop.invariant.1 (λ e. c.if1.false (ap (λ l. l.op.object) p.entry_at.ensures ∙ e)))
+    (omega arith, other-stays _ _ _ _ _ _ _ c.loop-i.invariant.1 (λ e. c.if-l-object.false (ap (λ l. l.op.object) c.entry_at-l.ensures ∙ e)))
 
 returns : tie.Need-returns invariant-loop decreases-loop
-returns c = all_seen _ _ _ _ _ _ _ c.before.loop.invariant.1 _ c.before.loop.invariant.0 c.loop-test.false
+returns c = all_seen _ _ _ _ _ _ _ c.loop-i.invariant.1 _ c.loop-i.invariant.0 c.loop-i-test.false
 
-pub put-object-spec : {M : Type 1} → statement M
-put-object-spec =
+pub put_object_spec : {M : Type 1} → statement M
+put_object_spec =
     tie.close
     (tie.spec
     invariant-loop

@@ -14,118 +14,98 @@ use Rattle.host.proofs.printing.put_recorded.Statement.{statement}
 use Rattle.host.proofs.printing.put_recorded.Tie as tie
 
 -- what is written, where it is to go, and how many bytes are asked for
-module _ (v : tie.After-verdict-width) where
-  abbrev start : tie.Start
-  start = v.before.before.before.before.before
+module _ (v : tie.After-verdict_width) where
 
   abbrev text : List ℕ
-  text = let a = start.args in verdict_text a.verdict a.line ++ (a.trace.now ++ a.report.now)
+  text = let a = v.args in verdict_text a.verdict a.line ++ (a.trace.now ++ a.report.now)
 
   abbrev buffer : List ℕ
-  buffer = start.args.out.now
+  buffer = v.args.out.now
 
   abbrev asked : ℕ
-  asked = let a = start.args in v.verdict-width.result + (length a.trace.now + length a.report.now)
+  asked = let a = v.args in v.verdict_width.result + (length a.trace.now + length a.report.now)
 
   text-length : length text ≡ asked
   text-length =
-      let a = start.args in
-      omega (arith, three-lengths (verdict_text a.verdict a.line) a.trace.now a.report.now, v.verdict-width.ensures.0)
+      let a = v.args in
+      omega (arith, three-lengths (verdict_text a.verdict a.line) a.trace.now a.report.now, v.verdict_width.ensures.0)
 
 -- the verdict is written
-module _ (c : tie.After-written) where
-  abbrev at-put-verdict : tie.After-put-verdict
-  at-put-verdict = c.before.before.before
+module _ (c : tie.After-written-at) where
 
-  abbrev at-if1 : tie.Else1
-  at-if1 = at-put-verdict.before.before
-
-  abbrev at-verdict-width : tie.After-verdict-width
-  at-verdict-width = at-if1.before.before
-
-  room : length (text at-verdict-width) ≤ length (buffer at-verdict-width)
+  room : length (text c.before.before.before.before.before.before.before) ≤ length (buffer c.before.before.before.before.before.before.before)
   room =
-      let v = at-verdict-width in
       omega (
         arith,
-        text-length v,
-        ltb-false (length (buffer v)) (asked v) (sym at-if1.before.too_short.ensures ∙ at-if1.if1.left),
+        text-length c.before.before.before.before.before.before.before,
+        ltb-false (length (buffer c.before.before.before.before.before.before.before)) (asked c.before.before.before.before.before.before.before) (sym c.too_short.ensures ∙ c.if-too_short.false),
       )
 
   one :
-      let v = at-verdict-width in
-      let a = (start v).args in
-      Writing (text v) (buffer v) at-put-verdict.put-verdict.last.0 c.written.result (a.trace.now ++ (a.report.now ++ []))
+      let a = c.args in
+      Writing (text c.before.before.before.before.before.before.before) (buffer c.before.before.before.before.before.before.before) c.put_verdict-v.new.out c.written-at.result (a.trace.now ++ (a.report.now ++ []))
   one =
-      let a = (start at-verdict-width).args in
+      let a = c.args in
       writing-put-first _ _ _ _ _
       (writing-as (three-pieces (verdict_text a.verdict a.line) a.trace.now a.report.now) (writing_start _ _ room))
-      at-put-verdict.put-verdict.ensures c.written.ensures
+      c.put_verdict-v.ensures c.written-at.ensures
 
 -- and the trace
-module _ (c : tie.After-written2) where
-  abbrev at-written : tie.After-written
-  at-written = c.before.before.before.before.before
+module _ (c : tie.After-written-at-2) where
 
   abbrev at2 : ℕ
-  at2 = at-written.written.result + c.written2.result
+  at2 = c.written-at.result + c.written-at-2.result
 
   abbrev out2 : List ℕ
   out2 =
-      lent (at-put-verdict at-written).put-verdict.last.0 at-written.written.result c.before.before.before.put-bytes.new.0
+      lent c.put_verdict-v.new.out c.written-at.result c.put_bytes-t.new.out
 
   two :
-      let v = at-verdict-width at-written in
-      Writing (text v) (buffer v) out2 at2 ((start v).args.report.now ++ [])
-  two = writing-put _ _ _ _ _ (one at-written) c.before.before.before.put-bytes.ensures c.written2.ensures
+      Writing (text c.before.before.before.before.before.before.before.before.before.before.before.before) (buffer c.before.before.before.before.before.before.before.before.before.before.before.before) out2 at2 (c.args.report.now ++ [])
+  two = writing-put _ _ _ _ _ (one c.before.before.before.before.before) c.put_bytes-t.ensures c.written-at-2.ensures
 
 -- and the report
-module _ (c : tie.After-written3) where
-  abbrev at-written2 : tie.After-written2
-  at-written2 = c.before.before.before.before.before
+module _ (c : tie.After-written) where
 
   three :
-      let b = at-written2 in
-      let v = at-verdict-width (at-written b) in
-      let ys = c.before.before.before.put-bytes2.new.0 in
-      Writing (text v) (buffer v) (lent (out2 b) (at2 b) ys) (at2 b + c.written3.result) []
-  three = writing-put _ _ _ _ _ (two at-written2) c.before.before.before.put-bytes2.ensures c.written3.ensures
+      let ys = c.put_bytes-r.new.out in
+      Writing (text c.before.before.before.before.before.before.before.before.before.before.before.before.before.before.before.before.before) (buffer c.before.before.before.before.before.before.before.before.before.before.before.before.before.before.before.before.before) (lent (out2 c.before.before.before.before.before) (at2 c.before.before.before.before.before) ys) (at2 c.before.before.before.before.before + c.written.result) []
+  three = writing-put _ _ _ _ _ (two c.before.before.before.before.before) c.put_bytes-r.ensures c.written.ensures
 
-returns : tie.Need-returns
+returns : tie.Need-returns-then-too_short
 returns c =
-    let v = c.before.before in
     put-short _ _
     (omega (
       arith,
-      text-length v,
-      ltb-true (length (buffer v)) (asked v) (sym c.before.too_short.ensures ∙ c.if1.true),
+      text-length c.before.before,
+      ltb-true (length (buffer c.before.before)) (asked c.before.before) (sym c.too_short.ensures ∙ c.if-too_short.true),
     ))
 
-sub-put-bytes : tie.Need-overflow-sub-put-bytes
+sub-put-bytes : tie.Need-slice_bounds-put_bytes-count
 sub-put-bytes c = omega (arith, writing-room (one c))
 
-part-put-bytes-start : tie.Need-slice-bounds-put-bytes-start
+part-put-bytes-start : tie.Need-slice_bounds-put_bytes-start
 part-put-bytes-start c = omega (arith, writing-room (one c))
 
-add_at : tie.Need-overflow-add-at
+add_at : tie.Need-overflow_add-at
 add_at c = omega (arith, writing-room (two c))
 
-sub-put-bytes-2 : tie.Need-overflow-sub-put-bytes-2
+sub-put-bytes-2 : tie.Need-slice_bounds-put_bytes-count-2
 sub-put-bytes-2 c = omega (arith, writing-room (two c))
 
-part-put-bytes-start-2 : tie.Need-slice-bounds-put-bytes-start-2
+part-put-bytes-start-2 : tie.Need-slice_bounds-put_bytes-start-2
 part-put-bytes-start-2 c = omega (arith, writing-room (two c))
 
-add-t22 : tie.Need-overflow-add-t22
+add-t22 : tie.Need-overflow_add-result
 add-t22 c = omega (arith, writing-room (three c))
 
-returns-2 : tie.Need-returns-2
+returns-2 : tie.Need-returns
 returns-2 c =
     let d = writing-done (three c) (omega arith) in
-    put-fits _ _ _ _ (room (at-written (at-written2 c))) d.0 d.1
+    put-fits _ _ _ _ (room c.before.before.before.before.before.before.before.before.before.before) d.0 d.1
 
-pub put-recorded-spec : {M : Type 1} → statement M
-put-recorded-spec =
+pub put_recorded_spec : {M : Type 1} → statement M
+put_recorded_spec =
     tie.close
     (tie.spec
     (λ c κs. search rules)

@@ -6,25 +6,24 @@ use borrow.Author.Rules.{rules}
 use Rattle.host.proofs.programs.lay_out.Statement.{statement}
 use Rattle.host.proofs.programs.lay_out.Tie as tie
 
-abbrev invariant-loop : tie.invariant-loop
+abbrev invariant-loop : tie.invariant-loop-k
 invariant-loop table₀ ps k₀ table k = LaidTo ps table k
 
-abbrev decreases-loop : tie.decreases-loop
+abbrev decreases-loop : tie.decreases-loop-k
 decreases-loop table₀ ps k₀ table k = ps.n - k
 
-loop-holds : tie.Need-loop-init invariant-loop decreases-loop
+loop-holds : tie.Need-loop-k-init invariant-loop decreases-loop
 loop-holds c = record { few = c.requires.0; room = c.requires.1; programs = λ prog h. absurd (omega (arith, h)) }
 
-loop-again : tie.Need-loop-preserved invariant-loop decreases-loop
+loop-again : tie.Need-loop-k-preserved invariant-loop decreases-loop
 loop-again c =
-    let l = c.before.before.before in
-    program-joins _ _ _ l.loop.invariant c.before.before.loop-test.true _ c.rows_of_lem.ensures
+    program-joins _ _ _ c.loop-k.invariant c.loop-k-test.true _ c.rows_of_lem.ensures
 
 returns : tie.Need-returns invariant-loop decreases-loop
-returns c = programs-are _ _ _ c.before.loop.invariant c.loop-test.false
+returns c = programs-are _ _ _ c.loop-k.invariant c.loop-k-test.false
 
-pub lay-out-spec : {M : Type 1} → statement M
-lay-out-spec =
+pub lay_out_spec : {M : Type 1} → statement M
+lay_out_spec =
     tie.close
     (tie.spec
     invariant-loop

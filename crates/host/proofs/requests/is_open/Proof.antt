@@ -7,5 +7,9 @@ use Rattle.host.proofs.requests.is_open.Tie as tie
 returns : tie.Need-returns
 returns c = open_at _ _
 
-pub is-open-spec : {M : Type 1} → statement M
-is-open-spec = tie.close (tie.spec (λ c. search rules) (λ c. search rules) (λ c. search rules) returns)
+pub is_open_spec : {M : Type 1} → statement M
+is_open_spec = tie.close (tie.spec
+    (λ c. search rules)
+    (λ c. search rules)
+    (λ c. search rules)
+    returns)

@@ -7,8 +7,8 @@ use Rattle.host.proofs.requests.locals_at.Tie as tie
 returns : tie.Need-returns
 returns c = locals-at _ _
 
-pub locals-at-spec : {M : Type 1} → statement M
-locals-at-spec =
+pub locals_at_spec : {M : Type 1} → statement M
+locals_at_spec =
     tie.close
     (tie.spec
     (λ c. search rules)

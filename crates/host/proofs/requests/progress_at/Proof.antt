@@ -8,8 +8,8 @@ use Rattle.host.proofs.requests.progress_at.Tie as tie
 returns : tie.Need-returns
 returns c = progress-at _ _ _ refl
 
-pub progress-at-spec : {M : Type 1} → statement M
-progress-at-spec =
+pub progress_at_spec : {M : Type 1} → statement M
+progress_at_spec =
     tie.close
     (tie.spec
     (λ c. search rules)

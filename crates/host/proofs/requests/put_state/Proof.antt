@@ -9,12 +9,11 @@ use Rattle.host.proofs.requests.put_state.Tie as tie
 returns : tie.Need-returns
 unfolding with_row
 returns c =
-    let start = c.before.before.before.before.before.before.before.before in
-    let a = start.args in
+    let a = c.args in
     sets-twelve a.states.now (a.s * 12) _ _ _ _ _ _ _ _ _ _ _ _
 
-pub put-state-spec : {M : Type 1} → statement M
-put-state-spec =
+pub put_state_spec : {M : Type 1} → statement M
+put_state_spec =
     tie.close
     (tie.spec
     (λ c. search rules)

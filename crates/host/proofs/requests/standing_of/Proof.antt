@@ -6,30 +6,26 @@ use borrow.Author.Rules.{rules}
 use Rattle.host.proofs.requests.standing_of.Statement.{statement}
 use Rattle.host.proofs.requests.standing_of.Tie as tie
 
-returns : tie.Need-returns
-returns c = none-there _ _ c.if1.true ∙ ap (standing_in _) c.before.slot_of.ensures
+returns : tie.Need-returns-then-slot-eq0
+returns c = none-there _ _ c.if-slot-eq0.true ∙ ap (standing_in _) c.slot_of-slot.ensures
 
-returns-2 : tie.Need-returns-2
-returns-2 c = none-so-high _ _ c.before.if1.false c.if2.true ∙ ap (standing_in _) c.before.before.slot_of.ensures
+returns-2 : tie.Need-returns-then-slot-gt-REQUESTS
+returns-2 c = none-so-high _ _ c.if-slot-eq0.false c.if-slot-gt-REQUESTS.true ∙ ap (standing_in _) c.slot_of-slot.ensures
 
 -- the way back from where the request's row was looked at
-abbrev at-if1 : tie.After-is-open → tie.Else1
-at-if1 p = p.before.before
 
-returns-3 : tie.Need-returns-3
+returns-3 : tie.Need-returns-then-is_open
 returns-3 c =
-    let p = c.before in
-    open-there _ _ (at-if1 p).if1.false p.before.if2.false (sym p.is_open.ensures ∙ c.if3.true)
-    ∙ ap (standing_in _) (at-if1 p).before.slot_of.ensures
+    open-there _ _ c.if-slot-eq0.false c.if-slot-gt-REQUESTS.false (sym c.is_open.ensures ∙ c.if-is_open.true)
+    ∙ ap (standing_in _) c.slot_of-slot.ensures
 
-returns-4 : tie.Need-returns-4
+returns-4 : tie.Need-returns
 returns-4 c =
-    let p = c.before in
-    shut-there _ _ (at-if1 p).if1.false p.before.if2.false (sym p.is_open.ensures ∙ c.if3.false)
-    ∙ ap (standing_in _) (at-if1 p).before.slot_of.ensures
+    shut-there _ _ c.if-slot-eq0.false c.if-slot-gt-REQUESTS.false (sym c.is_open.ensures ∙ c.if-is_open.false)
+    ∙ ap (standing_in _) c.slot_of-slot.ensures
 
-pub standing-of-spec : {M : Type 1} → statement M
-standing-of-spec =
+pub standing_of_spec : {M : Type 1} → statement M
+standing_of_spec =
     tie.close
     (tie.spec
     (λ c κs. search rules)

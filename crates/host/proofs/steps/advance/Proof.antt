@@ -9,45 +9,36 @@ use borrow.Author.Rules.{rules}
 use Rattle.host.proofs.steps.advance.Statement.{statement}
 use Rattle.host.proofs.steps.advance.Tie as tie
 
-abbrev invariant-loop : tie.invariant-loop
+abbrev invariant-loop : tie.invariant-loop-done
 invariant-loop table prog l₀ at done at₀ done₀ l at' done' =
     pathless (advance_of limit (code_in table prog) l at' done') ≡ pathless (advance_of limit (code_in table prog) l₀ at done)
 
-abbrev decreases-loop : tie.decreases-loop
+abbrev decreases-loop : tie.decreases-loop-done
 decreases-loop table prog l₀ at done at₀ done₀ l at' done' = limit - done'
 
-loop-holds : tie.Need-loop-init invariant-loop decreases-loop
+loop-holds : tie.Need-loop-done-init invariant-loop decreases-loop
 loop-holds c = refl
 
-loop-again : tie.Need-loop-preserved invariant-loop decreases-loop
+loop-again : tie.Need-loop-done-preserved invariant-loop decreases-loop
 loop-again c =
-    let f = c.before.before.before in
-    let i = f.before.before in
-    let t = i.before in
-    went _ _ _ _ _ t.loop-test.true _ _ _ _ i.instr-at.ensures f.carry-out.ensures c.before.to.given.1
-    ∙ t.before.loop.invariant
+    went _ _ _ _ _ c.loop-done-test.true _ _ _ _ c.instr_at-i.ensures c.carry_out.ensures c.to-1.given.1
+    ∙ c.loop-done.invariant
 
-returns : tie.Need-returns invariant-loop decreases-loop
+returns : tie.Need-returns-in-Asks invariant-loop decreases-loop
 returns c =
-    let f = c.before.before.before in
-    let i = f.before.before in
-    let t = i.before in
-    went _ _ _ _ _ t.loop-test.true _ _ _ _ i.instr-at.ensures f.carry-out.ensures c.before.o.given.1
-    ∙ t.before.loop.invariant
+    went _ _ _ _ _ c.loop-done-test.true _ _ _ _ c.instr_at-i.ensures c.carry_out.ensures c.o-1.given.1
+    ∙ c.loop-done.invariant
 
-returns-2 : tie.Need-returns-2 invariant-loop decreases-loop
+returns-2 : tie.Need-returns-in-Replies invariant-loop decreases-loop
 returns-2 c =
-    let f = c.before.before.before in
-    let i = f.before.before in
-    let t = i.before in
-    went _ _ _ _ _ t.loop-test.true _ _ _ _ i.instr-at.ensures f.carry-out.ensures c.before.v.given.1
-    ∙ t.before.loop.invariant
+    went _ _ _ _ _ c.loop-done-test.true _ _ _ _ c.instr_at-i.ensures c.carry_out.ensures c.v-1.given.1
+    ∙ c.loop-done.invariant
 
-returns-3 : tie.Need-returns-3 invariant-loop decreases-loop
-returns-3 c = sym (cut_off _ _ _ _ _ c.loop-test.false) ∙ c.before.loop.invariant
+returns-3 : tie.Need-returns invariant-loop decreases-loop
+returns-3 c = sym (cut_off _ _ _ _ _ c.loop-done-test.false) ∙ c.loop-done.invariant
 
-pub advance-spec : {M : Type 1} → statement M
-advance-spec =
+pub advance_spec : {M : Type 1} → statement M
+advance_spec =
     tie.close
     (tie.spec
     invariant-loop

@@ -5,32 +5,35 @@ use borrow.Author.Rules.{rules}
 use Rattle.host.proofs.steps.arrive.Statement.{statement}
 use Rattle.host.proofs.steps.arrive.Tie as tie
 
-returns : tie.Need-returns
+returns : tie.Need-returns-then-n-prog
 returns c = λ logs registers cells buckets.
     record {
       unknown = λ h. refl;
-      twice = λ h k. absurd (omega (arith, h, c.if1.true));
-      arrives = λ h k. absurd (omega (arith, h, c.if1.true));
+      twice = λ h k. absurd (omega (arith, h, c.if-n-prog.true));
+      arrives = λ h k. absurd (omega (arith, h, c.if-n-prog.true));
     }
 
-returns-2 : tie.Need-returns-2
+returns-2 : tie.Need-returns-then-slot_of-ne0
 returns-2 c = λ logs registers cells buckets.
     record {
       unknown = λ h. refl;
       twice = λ h k. refl;
-      arrives = λ h k. absurd (c.if2.true (c.before.slot_of.ensures ∙ k));
+      arrives = λ h k. absurd (c.if-slot_of-ne0.true (c.slot_of.ensures ∙ k));
     }
 
-returns-3 : tie.Need-returns-3
+returns-3 : tie.Need-returns
 returns-3 c = λ logs registers cells buckets.
-    let at-if2 = c.before.before.before.before.before in
-    let at-slot-of = at-if2.before in
     record {
-      unknown = λ h. absurd (omega (arith, h, at-slot-of.before.before.if1.false));
-      twice = λ h k. absurd (k (sym at-slot-of.slot_of.ensures ∙ at-if2.if2.false));
-      arrives = λ h k. (_, refl, c.open-request.ensures logs registers cells buckets);
+      unknown = λ h. absurd (omega (arith, h, c.if-n-prog.false));
+      twice = λ h k. absurd (k (sym c.slot_of.ensures ∙ c.if-slot_of-ne0.false));
+      arrives = λ h k. (_, refl, c.open_request.ensures logs registers cells buckets);
     }
 
-pub arrive-spec : {M : Type 1} → statement M
-arrive-spec =
-    tie.close (tie.spec returns (λ c κs. search rules) returns-2 (λ c κs. search rules) returns-3)
+pub arrive_spec : {M : Type 1} → statement M
+arrive_spec =
+    tie.close (tie.spec
+    returns
+    (λ c κs. search rules)
+    returns-2
+    (λ c κs. search rules)
+    returns-3)

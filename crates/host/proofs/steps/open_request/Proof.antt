@@ -7,19 +7,16 @@ use Rattle.host.proofs.steps.open_request.Tie as tie
 
 returns : tie.Need-returns
 returns c = λ logs registers cells buckets.
-    let of-put = c.before.before.before in
-    let state-put = of-put.before.before in
-    let slot-put = state-put.before.before.before in
     record {
-      slot = slot-put.put-slot.ensures;
+      slot = c.put_slot.ensures;
       rest =
           memory-as registers cells buckets _
-          (locals-as _ _ _ _ _ _ _ state-put.put-state.ensures slot-put.before.before.first-locals.ensures)
-          of-put.Put-of.ensures c.before.put-event.ensures refl;
+          (locals-as _ _ _ _ _ _ _ c.put_state.ensures c.first_locals-l.ensures)
+          c.Put-of.ensures c.put_event.ensures refl;
     }
 
-pub open-request-spec : {M : Type 1} → statement M
-open-request-spec =
+pub open_request_spec : {M : Type 1} → statement M
+open_request_spec =
     tie.close
     (tie.spec
     (λ c κs. search rules)

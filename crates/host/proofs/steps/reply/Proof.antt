@@ -7,10 +7,10 @@ use Rattle.host.proofs.steps.reply.Tie as tie
 
 returns : tie.Need-returns
 returns c = λ ofs logs registers cells buckets.
-    memory-as registers cells buckets _ c.before.before.before.put-state.ensures refl c.before.put-event.ensures refl
+    memory-as registers cells buckets _ c.put_state.ensures refl c.put_event.ensures refl
 
-pub reply-spec : {M : Type 1} → statement M
-reply-spec =
+pub reply_spec : {M : Type 1} → statement M
+reply_spec =
     tie.close
     (tie.spec
     (λ c κs. search rules)

@@ -6,49 +6,32 @@ use borrow.Author.Rules.{rules}
 use Rattle.host.proofs.steps.turn.Statement.{statement}
 use Rattle.host.proofs.steps.turn.Tie as tie
 
--- the way back from where the request went on
-module _ (w : tie.After-advance) where
-  abbrev at-locals-at : tie.After-locals-at
-  at-locals-at = w.before.before
-
-  abbrev at-progress-at : tie.After-progress-at
-  at-progress-at = at-locals-at.before.before
-
-returns : tie.Need-returns
+returns : tie.Need-returns-then-c-ge-ENTRIES
 returns c =
-    let at_next = c.before.before.before in
-    let w = at_next.before.before in
-    turned _ _ _ _ _ _ _ _ _ _ (at-progress-at w).progress-at.ensures (at-locals-at w).locals-at.ensures
-    w.advance.ensures _ at_next.next.given.1
-    (record { full = λ h. refl; operates = λ h. absurd (omega (arith, h, c.if1.true)) })
+    turned _ _ _ _ _ _ _ _ _ _ c.progress_at-was.ensures c.locals_at-l.ensures
+    c.advance-stop.ensures _ c.next-1.given.1
+    (record { full = λ h. refl; operates = λ h. absurd (omega (arith, h, c.if-c-ge-ENTRIES.true)) })
 
-returns-2 : tie.Need-returns-2
+returns-2 : tie.Need-returns-in-Operation
 returns-2 c =
-    let at-if1 = c.before.before.before.before.before.before.before.before in
-    let at_next = at-if1.before.before.before in
-    let w = at_next.before.before in
-    turned _ _ _ _ _ _ _ _ _ _ (at-progress-at w).progress-at.ensures (at-locals-at w).locals-at.ensures
-    w.advance.ensures _ at_next.next.given.1
+    turned _ _ _ _ _ _ _ _ _ _ c.progress_at-was.ensures c.locals_at-l.ensures
+    c.advance-stop.ensures _ c.next-1.given.1
     (record {
-      full = λ h. absurd (omega (arith, h, at-if1.if1.false));
-      operates = λ h. (_, refl, c.operate.ensures _);
+      full = λ h. absurd (omega (arith, h, c.if-c-ge-ENTRIES.false));
+      operates = λ h. (_, refl, c.operate-d.ensures _);
     })
 
-returns-3 : tie.Need-returns-3
+returns-3 : tie.Need-returns-in-Reply
 returns-3 c =
-    let at-next2 = c.before.before.before.before.before in
-    let w = at-next2.before.before in
-    turned _ _ _ _ _ _ _ _ _ _ (at-progress-at w).progress-at.ensures (at-locals-at w).locals-at.ensures
-    w.advance.ensures _ at-next2.next2.given.1
+    turned _ _ _ _ _ _ _ _ _ _ c.progress_at-was.ensures c.locals_at-l.ensures
+    c.advance-stop.ensures _ c.next-in-Reply-1.given.1
     (record { counts = _; on = refl; rest = c.reply.ensures _ _ _ _ _ })
 
-returns-4 : tie.Need-returns-4
+returns-4 : tie.Need-returns-in-Cut
 returns-4 c =
-    let at-enum-told = c.before.before.before.before in
-    let w = at-enum-told.before.before in
-    turned _ _ _ _ _ _ _ _ _ _ (at-progress-at w).progress-at.ensures (at-locals-at w).locals-at.ensures
-    w.advance.ensures _ at-enum-told.enum_told.given.1
-    (record { counts = _; on = refl; rest = c.reply2.ensures _ _ _ _ _ })
+    turned _ _ _ _ _ _ _ _ _ _ c.progress_at-was.ensures c.locals_at-l.ensures
+    c.advance-stop.ensures _ c.enum_told-1.given.1
+    (record { counts = _; on = refl; rest = c.reply-in-Cut.ensures _ _ _ _ _ })
 
 pub turn_spec : {M : Type 1} → statement M
 turn_spec =

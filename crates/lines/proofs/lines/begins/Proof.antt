@@ -5,34 +5,32 @@ use Rattle.lines.proofs.Prefix.{prefix-end, prefix-short, prefix-step, prefix-di
 use Rattle.lines.proofs.lines.begins.Statement.{statement}
 use Rattle.lines.proofs.lines.begins.Tie as tie
 
-abbrev invariant-loop : tie.invariant-loop
+abbrev invariant-loop : tie.invariant-loop-i
 invariant-loop s w i₀ i = (i ≤ length w) × (prefix w s ≡ prefix (drop i w) (drop i s))
 
-abbrev decreases-loop : tie.decreases-loop
+abbrev decreases-loop : tie.decreases-loop-i
 decreases-loop s w i₀ i = length w - i
 
-returns : tie.Need-returns invariant-loop decreases-loop
-returns c = let l = c.before.before.loop in sym (l.invariant.1 ∙ prefix-short _ _ l.i (search rules) (search rules))
+returns : tie.Need-returns-then-s-i invariant-loop decreases-loop
+returns c = let l = c.loop-i in sym (l.invariant.1 ∙ prefix-short _ _ l.i (search rules) (search rules))
 
 -- the way back from where two bytes are compared
-abbrev at-loop : tie.After-shared-slice-known2 invariant-loop decreases-loop → tie.At-loop invariant-loop decreases-loop
-at-loop r = r.before.before.before.before
 
-returns-2 : tie.Need-returns-2 invariant-loop decreases-loop
+returns-2 : tie.Need-returns-then-s-i-2 invariant-loop decreases-loop
 returns-2 c =
-    let l = (at-loop c.before).loop in
-    sym (l.inv.1 ∙ prefix-differ _ _ l.i (search rules) (search rules) c.if2.true)
+    let l = c.loop-i in
+    sym (l.invariant.1 ∙ prefix-differ _ _ l.i (search rules) (search rules) c.if-s-i-2.true)
 
-loop-again : tie.Need-loop-preserved invariant-loop decreases-loop
+loop-again : tie.Need-loop-i-preserved invariant-loop decreases-loop
 loop-again c =
-    let l = (at-loop c.before).loop in
-    (search rules, l.inv.1 ∙ prefix-step _ _ l.i (search rules) (search rules) c.if2.false)
+    let l = c.loop-i in
+    (search rules, l.invariant.1 ∙ prefix-step _ _ l.i (search rules) (search rules) c.if-s-i-2.false)
 
-returns-3 : tie.Need-returns-3 invariant-loop decreases-loop
-returns-3 c = let l = c.before.loop in sym (l.invariant.1 ∙ prefix-end _ _ l.i (search rules))
+returns-3 : tie.Need-returns invariant-loop decreases-loop
+returns-3 c = let l = c.loop-i in sym (l.invariant.1 ∙ prefix-end _ _ l.i (search rules))
 
-pub begins-spec : {M : Type 1} → statement M
-begins-spec =
+pub begins_spec : {M : Type 1} → statement M
+begins_spec =
     tie.close
     (tie.spec
     invariant-loop

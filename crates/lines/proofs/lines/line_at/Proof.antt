@@ -6,28 +6,25 @@ use Rattle.std.proofs.Common.{rules}
 use Rattle.lines.proofs.lines.line_at.Statement.{statement}
 use Rattle.lines.proofs.lines.line_at.Tie as tie
 
-returns : tie.Need-returns
+returns : tie.Need-returns-then-s-at
 unfolding found_in
 returns c = line-out _ _ _ _ (search rules)
 
-returns-2 : tie.Need-returns-2
+returns-2 : tie.Need-returns-then-not-begins
 unfolding found_in
 returns-2 c =
-    let start = c.before.before.before.before.before.before in
-    let s = start.args.s.now in
-    line_other _ _ s _ (word_test _ s _ _ _ c.before.begins.ensures (not-true _ c.if2.true))
+    let s = c.args.s.now in
+    line_other _ _ s _ (word_test _ s _ _ _ c.begins.ensures (not-true _ c.if-not-begins.true))
 
-returns-3 : tie.Need-returns-3
+returns-3 : tie.Need-returns
 returns-3 c =
-    let at-if2 = c.before.before.before in
-    let start = at-if2.before.before.before.before.before.before in
-    let a = start.args in
+    let a = c.args in
     let s = a.s.now in
-    line_read a.w.now _ s a.at _ a.n _ _ c.before.before.least.ensures c.fields_at.ensures
-    (word_test _ s _ _ _ at-if2.before.begins.ensures (not-false _ at-if2.if2.false))
+    line_read a.w.now _ s a.at _ a.n _ _ c.least.ensures c.fields_at.ensures
+    (word_test _ s _ _ _ c.begins.ensures (not-false _ c.if-not-begins.false))
 
-pub line-at-spec : {M : Type 1} → statement M
-line-at-spec =
+pub line_at_spec : {M : Type 1} → statement M
+line_at_spec =
     tie.close
     (tie.spec
     returns

@@ -4,45 +4,37 @@ use Rattle.lines.proofs.Spelling.{spelled_out, spelled_none, spelled-digits, spe
 use Rattle.lines.proofs.numbers.number_at.Statement.{statement}
 use Rattle.lines.proofs.numbers.number_at.Tie as tie
 
-returns : tie.Need-returns
+returns : tie.Need-returns-then-s-at
 returns c = spelled_out _ _ (search rules)
 
-returns-2 : tie.Need-returns-2
-returns-2 c = spelled_none _ _ (search rules) (c.before.digit.ensures.1 (search rules))
+returns-2 : tie.Need-returns-then-d-gt9
+returns-2 c = spelled_none _ _ (search rules) (c.digit-d.ensures.1 (search rules))
 
-returns-3 : tie.Need-returns-3
+returns-3 : tie.Need-returns-then-d-ne0
 returns-3 c =
-    let d = c.before.before.before.digit in
-    c.digits-at.ensures
-    ∙ spelled-digits _ _ (search rules) d.result (d.ensures.0 (search rules)) (search rules) c.before.if3.true
+    let d = c.digit-d in
+    c.digits_at.ensures
+    ∙ spelled-digits _ _ (search rules) d.result (d.ensures.0 (search rules)) (search rules) c.if-d-ne0.true
 
-returns-4 : tie.Need-returns-4
+returns-4 : tie.Need-returns-then-s-e
 returns-4 c =
-    let d = c.before.before.before.digit in
-    spelled-zero-out _ _ (search rules) d.result (d.ensures.0 (search rules)) (search rules) c.before.if3.false (search rules)
+    let d = c.digit-d in
+    spelled-zero-out _ _ (search rules) d.result (d.ensures.0 (search rules)) (search rules) c.if-d-ne0.false (search rules)
 
--- the way back from where the byte behind a zero was looked at
-module _ (r : tie.After-ends) where
-  abbrev at-if3 : tie.Else3
-  at-if3 = r.before.before.before
-
-  abbrev at-digit : tie.After-digit
-  at-digit = at-if3.before.before
-
-returns-5 : tie.Need-returns-5
+returns-5 : tie.Need-returns-then-ends
 returns-5 c =
-    let d = (at-digit c.before).digit in
+    let d = c.digit-d in
     spelled-zero-stop _ _ (search rules) d.result (d.ensures.0 (search rules)) (search rules)
-    (at-if3 c.before).if3.left (search rules) (sym c.before.ends.ensures ∙ c.if5.true)
+    c.if-d-ne0.false (search rules) (sym c.ends.ensures ∙ c.if-ends.true)
 
-returns-6 : tie.Need-returns-6
+returns-6 : tie.Need-returns
 returns-6 c =
-    let d = (at-digit c.before).digit in
+    let d = c.digit-d in
     spelled-lead _ _ (search rules) d.result (d.ensures.0 (search rules)) (search rules)
-    (at-if3 c.before).if3.left (search rules) (sym c.before.ends.ensures ∙ c.if5.false)
+    c.if-d-ne0.false (search rules) (sym c.ends.ensures ∙ c.if-ends.false)
 
-pub number-at-spec : {M : Type 1} → statement M
-number-at-spec =
+pub number_at_spec : {M : Type 1} → statement M
+number_at_spec =
     tie.close
     (tie.spec
     returns

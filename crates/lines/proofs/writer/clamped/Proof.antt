@@ -4,8 +4,10 @@ use Rattle.lines.proofs.LineTexts.{clamp}
 use Rattle.lines.proofs.writer.clamped.Statement.{statement}
 use Rattle.lines.proofs.writer.clamped.Tie as tie
 
-returns-2 : tie.Need-returns-2
-returns-2 c = let f = c.before.before.args.f in (omega arith, clamp f.v f.n (search rules) (search rules))
+returns-2 : tie.Need-returns
+returns-2 c = let f = c.args.f in (omega arith, clamp f.v f.n (search rules) (search rules))
 
-pub clamped-spec : {M : Type 1} → statement M
-clamped-spec = tie.close (tie.spec (λ c. search rules) returns-2)
+pub clamped_spec : {M : Type 1} → statement M
+clamped_spec = tie.close (tie.spec
+    (λ c. search rules)
+    returns-2)

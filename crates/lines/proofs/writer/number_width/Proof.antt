@@ -5,7 +5,10 @@ use Rattle.lines.proofs.writer.number_width.Statement.{statement}
 use Rattle.lines.proofs.writer.number_width.Tie as tie
 
 returns : tie.Need-returns
-returns c = (omega (arith, number-length c.before.args.v, c.width.ensures.0), omega (arith, c.width.ensures.1))
+returns c = (omega (arith, number-length c.args.v, c.width.ensures.0), omega (arith, c.width.ensures.1))
 
-pub number-width-spec : {M : Type 1} → statement M
-number-width-spec = tie.close (tie.spec (λ c κs. search rules) (λ c. search rules) returns)
+pub number_width_spec : {M : Type 1} → statement M
+number_width_spec = tie.close (tie.spec
+    (λ c κs. search rules)
+    (λ c. search rules)
+    returns)

@@ -5,7 +5,10 @@ use Rattle.lines.proofs.writer.numbers_width.Statement.{statement}
 use Rattle.lines.proofs.writer.numbers_width.Tie as tie
 
 returns : tie.Need-returns
-returns c = (c.widths.ensures.0 ∙ ap (λ vs. length (numbers_text vs)) c.before.clamped.ensures.1, c.widths.ensures.1)
+returns c = (c.widths.ensures.0 ∙ ap (λ vs. length (numbers_text vs)) c.clamped.ensures.1, c.widths.ensures.1)
 
-pub numbers-width-spec : {M : Type 1} → statement M
-numbers-width-spec = tie.close (tie.spec (λ c κs. search rules) (λ c κs. search rules) returns)
+pub numbers_width_spec : {M : Type 1} → statement M
+numbers_width_spec = tie.close (tie.spec
+    (λ c κs. search rules)
+    (λ c κs. search rules)
+    returns)

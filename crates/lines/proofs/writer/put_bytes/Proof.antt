@@ -4,11 +4,15 @@ use Rattle.std.proofs.Common.{rules}
 use Rattle.lines.proofs.writer.put_bytes.Statement.{statement}
 use Rattle.lines.proofs.writer.put_bytes.Tie as tie
 
-returns : tie.Need-returns
+returns : tie.Need-returns-then-out-w
 returns c = put-short _ _ (search rules)
 
-returns-2 : tie.Need-returns-2
-returns-2 c = put-fits _ _ _ _ (search rules) c.before.before.fill-word.ensures.0 c.before.before.fill-word.ensures.1
+returns-2 : tie.Need-returns
+returns-2 c = put-fits _ _ _ _ (search rules) c.fill_word.ensures.0 c.fill_word.ensures.1
 
-pub put-bytes-spec : {M : Type 1} → statement M
-put-bytes-spec = tie.close (tie.spec returns (λ c κs. search rules) (λ c. search rules) returns-2)
+pub put_bytes_spec : {M : Type 1} → statement M
+put_bytes_spec = tie.close (tie.spec
+    returns
+    (λ c κs. search rules)
+    (λ c. search rules)
+    returns-2)

@@ -6,5 +6,7 @@ use Rattle.machine.proofs.instructions.becomes.Tie as tie
 returns : tie.Need-returns
 returns c = cc
 
-pub becomes-spec : {M : Type 1} → statement M
-becomes-spec = tie.close (tie.spec (λ c κs. search rules) returns)
+pub becomes_spec : {M : Type 1} → statement M
+becomes_spec = tie.close (tie.spec
+    (λ c κs. search rules)
+    returns)

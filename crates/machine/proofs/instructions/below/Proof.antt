@@ -6,8 +6,9 @@ use Rattle.machine.proofs.instructions.below.Tie as tie
 
 returns : tie.Need-returns
 returns c =
-    let at-start = c.before in
-    rw c.half-sum.ensures (carry-below 63 at-start.args.x at-start.args.y at-start.ranges.x.fits at-start.ranges.y.fits)
+    rw c.half_sum.ensures (carry-below 63 c.args.x c.args.y c.ranges.x.fits c.ranges.y.fits)
 
-pub below-spec : {M : Type 1} → statement M
-below-spec = tie.close (tie.spec (λ c κs. search rules) returns)
+pub below_spec : {M : Type 1} → statement M
+below_spec = tie.close (tie.spec
+    (λ c κs. search rules)
+    returns)

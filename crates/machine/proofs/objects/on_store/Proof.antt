@@ -4,16 +4,15 @@ use Rattle.machine.proofs.Performing.{store-put, store-look}
 use Rattle.machine.proofs.objects.on_store.Statement.{statement}
 use Rattle.machine.proofs.objects.on_store.Tie as tie
 
-returns : tie.Need-returns
-returns c = λ contents h g. store-put contents _ (eq-eqb _ _ c.before.before.before.if1.true) g (c.put.ensures contents h)
+returns : tie.Need-returns-then-x-eq-PUT
+returns c = λ contents h g. store-put contents _ (eq-eqb _ _ c.if-x-eq-PUT.true) g (c.put-n.ensures contents h)
 
-returns-2 : tie.Need-returns-2
+returns-2 : tie.Need-returns
 returns-2 c = λ contents h g.
-    let at-if1 = c.before.before.before.before in
-    store-look contents _ _ _ (ne_eqb _ _ at-if1.if1.false) (c.before.look.ensures _ contents h) c.finds.ensures h
+    store-look contents _ _ _ (ne_eqb _ _ c.if-x-eq-PUT.false) (c.look-c.ensures _ contents h) c.finds.ensures h
 
-pub on-store-spec : {M : Type 1} → statement M
-on-store-spec =
+pub on_store_spec : {M : Type 1} → statement M
+on_store_spec =
     tie.close
     (tie.spec
     (λ c κs. search rules)

@@ -3,14 +3,19 @@ use Rattle.std.proofs.Common.{rules, le-ltb, lt-ltb}
 use Rattle.machine.proofs.rules.body_keeps.Statement.{statement}
 use Rattle.machine.proofs.rules.body_keeps.Tie as tie
 
-returns : tie.Need-returns
-returns c = rw (← c.before.before.keeps.ensures, c.before.if1.true, lt-ltb _ _ c.if2.true)
+returns : tie.Need-returns-then-j-n
+returns c = rw (← c.keeps.ensures, c.if-keeps.true, lt-ltb _ _ c.if-j-n.true)
 
-returns-2 : tie.Need-returns-2
-returns-2 c = rw (← c.before.before.before.keeps.ensures, c.before.before.if1.true, le-ltb _ _ c.before.if2.false)
+returns-2 : tie.Need-returns-else-j-n
+returns-2 c = rw (← c.keeps.ensures, c.if-keeps.true, le-ltb _ _ c.if-j-n.false)
 
-returns-3 : tie.Need-returns-3
-returns-3 c = rw (← c.before.keeps.ensures, c.if1.false)
+returns-3 : tie.Need-returns-else-keeps
+returns-3 c = rw (← c.keeps.ensures, c.if-keeps.false)
 
-pub body-keeps-spec : {M : Type 1} → statement M
-body-keeps-spec = tie.close (tie.spec (λ c κs. search rules) (λ c. search rules) returns returns-2 returns-3)
+pub body_keeps_spec : {M : Type 1} → statement M
+body_keeps_spec = tie.close (tie.spec
+    (λ c κs. search rules)
+    (λ c. search rules)
+    returns
+    returns-2
+    returns-3)

@@ -16,10 +16,10 @@ use Rattle.machine.proofs.Scan.{
 use Rattle.machine.proofs.rules.check_rules.Statement.{statement}
 use Rattle.machine.proofs.rules.check_rules.Tie as tie
 
-abbrev invariant-loop : tie.invariant-loop
+abbrev invariant-loop : tie.invariant-loop-j
 invariant-loop ps count line₀ k p n j₀ line j = AtInstruction ps.table count k j line
 
-abbrev decreases-loop : tie.decreases-loop
+abbrev decreases-loop : tie.decreases-loop-j
 decreases-loop ps count line₀ k p n j₀ line j = n - j
 
 abbrev invariant-table : tie.invariant-table
@@ -28,35 +28,33 @@ invariant-table ps count line₀ k₀ line k = AtProgram ps.table count k line
 abbrev decreases-table : tie.decreases-table
 decreases-table ps count line₀ k₀ line k = count - k
 
-loop-holds : tie.Need-loop-init invariant-loop decreases-loop invariant-table decreases-table
+loop-holds : tie.Need-loop-j-init invariant-loop decreases-loop invariant-table decreases-table
 loop-holds c =
-    let at-table-test = c.before.before.before in
-    program-kept at-table-test.before.table.invariant at-table-test.table-test.true
-    (sym c.before.head-keeps.ensures ∙ not-false _ c.if1.false)
+    program-kept c.table.invariant c.table-test.true
+    (sym c.head_keeps.ensures ∙ not-false _ c.if-not-head_keeps.false)
 
-loop-again : tie.Need-loop-preserved invariant-loop decreases-loop invariant-table decreases-table
+loop-again : tie.Need-loop-j-preserved invariant-loop decreases-loop invariant-table decreases-table
 loop-again c =
-    let at-loop-test = c.before.before.before in
-    instruction-kept at-loop-test.before.loop.invariant at-loop-test.loop-test.true
-    (sym c.before.body-keeps.ensures ∙ not-false _ c.if2.false)
+    instruction-kept c.loop-j.invariant c.loop-j-test.true
+    (sym c.body_keeps.ensures ∙ not-false _ c.if-not-body_keeps.false)
 
 table-again : tie.Need-table-preserved invariant-loop decreases-loop invariant-table decreases-table
-table-again c = instructions-end c.before.loop.invariant c.loop-test.false
+table-again c = instructions-end c.loop-j.invariant c.loop-j-test.false
 
-returns : tie.Need-returns invariant-loop decreases-loop invariant-table decreases-table
+returns : tie.Need-returns-then-k-count invariant-loop decreases-loop invariant-table decreases-table
 returns c =
-    rw (← c.before.before.before.least.ensures)
+    rw (← c.least-count.ensures)
     (⊎_elim (λ w. absurd (omega arith))
     (⊎_elim
-    (λ w. ap some w.4 ∙ program-broken c.before.before.table.invariant w.0.taken (sym w.2.ensures ∙ not-true _ w.3.taken))
-    (λ w. ap some w.9 ∙ instruction-broken w.4.inv w.5.taken (sym w.7.ensures ∙ not-true _ w.8.taken)))
-    c.before.table-test.branch)
+    (λ w. ap some w.4 ∙ program-broken c.table.invariant w.0.taken (sym w.2.ensures ∙ not-true _ w.3.taken))
+    (λ w. ap some w.9 ∙ instruction-broken w.4.invariant w.5.taken (sym w.7.ensures ∙ not-true _ w.8.taken)))
+    c.table-test.branch)
 
-returns-2 : tie.Need-returns-2 invariant-loop decreases-loop invariant-table decreases-table
-returns-2 c = rw (← c.before.before.before.least.ensures) (programs-end c.before.before.table.invariant c.if3.false)
+returns-2 : tie.Need-returns-else-k-count invariant-loop decreases-loop invariant-table decreases-table
+returns-2 c = rw (← c.least-count.ensures) (programs-end c.table.invariant c.if-k-count.false)
 
-pub check-rules-spec : {M : Type 1} → statement M
-check-rules-spec =
+pub check_rules_spec : {M : Type 1} → statement M
+check_rules_spec =
     tie.close
     (tie.spec
     invariant-loop

@@ -4,26 +4,26 @@ use borrow.Author.Tests.{lt-leb}
 use Rattle.machine.proofs.rules.fits.Statement.{statement}
 use Rattle.machine.proofs.rules.fits.Tie as tie
 
-returns : tie.Need-returns
-returns c = rw c.enum_told.given.1
+returns : tie.Need-returns-in-Unused
+returns c = rw c.enum_told-1.given.1
 
-returns-3 : tie.Need-returns-3
-returns-3 c = rw c.enum-told3.given.1
+returns-3 : tie.Need-returns-in-Local
+returns-3 c = rw c.enum_told-in-Local-1.given.1
 
-returns-4 : tie.Need-returns-4
-returns-4 c = rw c.enum-told4.given.1
+returns-4 : tie.Need-returns-in-Register
+returns-4 c = rw c.enum_told-in-Register-1.given.1
 
-returns-5 : tie.Need-returns-5
-returns-5 c = rw (c.before.enum-told5.given.1, lt-leb _ _ c.if1.true)
+returns-5 : tie.Need-returns-then-v-lt-FIRST_STORE
+returns-5 c = rw (c.enum_told-in-Store-1.given.1, lt-leb _ _ c.if-v-lt-FIRST_STORE.true)
 
-returns-6 : tie.Need-returns-6
-returns-6 c = rw (c.before.enum-told5.given.1, le-leb _ _ c.if1.false)
+returns-6 : tie.Need-returns-else-v-lt-FIRST_STORE
+returns-6 c = rw (c.enum_told-in-Store-1.given.1, le-leb _ _ c.if-v-lt-FIRST_STORE.false)
 
-returns-7 : tie.Need-returns-7
-returns-7 c = rw c.enum-told6.given.1
+returns-7 : tie.Need-returns-in-Target
+returns-7 c = rw c.enum_told-in-Target-1.given.1
 
-pub fits-spec : {M : Type 1} → statement M
-fits-spec =
+pub fits_spec : {M : Type 1} → statement M
+fits_spec =
     tie.close
     (tie.spec
     (λ c. search rules)

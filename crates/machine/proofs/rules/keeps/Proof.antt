@@ -11,47 +11,34 @@ use Rattle.machine.proofs.rules.keeps.Tie as tie
 row : (n : ℕ) → fields_of (code_of n) ≡ get_or (map fields_of codes) n (fields_of other)
 row n = sym (get_or-map fields_of codes n other)
 
-returns : tie.Need-returns
-returns c = rw (le-ltb _ _ c.if1.true)
+returns : tie.Need-returns-then-code
+returns c = rw (le-ltb _ _ c.if-code.true)
 
--- the way back from where the first field was looked at
-module _ (r : tie.After-fits2) where
-  abbrev at-if1 : tie.Else1
-  at-if1 = r.before.before
-
-  abbrev start : tie.Start
-  start = at-if1.before
-
-returns-2 : tie.Need-returns-2
+returns-2 : tie.Need-returns-then-not-fits
 returns-2 c =
-    let at-fits2 = c.before in
     rw (
-      lt-ltb _ _ (at-if1 at-fits2).if1.false,
-      row (start at-fits2).args.i.code,
-      sym at-fits2.fits2.ensures ∙ not-true _ c.if2.true,
+      lt-ltb _ _ c.if-code.false,
+      row c.args.i.code,
+      sym c.fits-2.ensures ∙ not-true _ c.if-not-fits.true,
     )
 
-returns-3 : tie.Need-returns-3
+returns-3 : tie.Need-returns-then-not-fits-2
 returns-3 c =
-    let at-if2 = c.before.before in
-    let at-fits2 = at-if2.before in
     rw (
-      lt-ltb _ _ (at-if1 at-fits2).if1.false,
-      row (start at-fits2).args.i.code,
-      sym at-fits2.fits2.ensures ∙ not-false _ at-if2.if2.false,
-      sym c.before.fits3.ensures ∙ not-true _ c.if3.true,
+      lt-ltb _ _ c.if-code.false,
+      row c.args.i.code,
+      sym c.fits-2.ensures ∙ not-false _ c.if-not-fits.false,
+      sym c.fits-3.ensures ∙ not-true _ c.if-not-fits-2.true,
     )
 
-returns-4 : tie.Need-returns-4
+returns-4 : tie.Need-returns
 returns-4 c =
-    let at-if2 = c.before.before.before in
-    let at-fits2 = at-if2.before in
     rw (
       c.fits4.ensures,
-      lt-ltb _ _ (at-if1 at-fits2).if1.false,
-      row (start at-fits2).args.i.code,
-      sym at-fits2.fits2.ensures ∙ not-false _ at-if2.if2.false,
-      sym c.before.before.fits3.ensures ∙ not-false _ c.before.if3.false,
+      lt-ltb _ _ c.if-code.false,
+      row c.args.i.code,
+      sym c.fits-2.ensures ∙ not-false _ c.if-not-fits.false,
+      sym c.fits-3.ensures ∙ not-false _ c.if-not-fits-2.false,
     )
 
 pub keeps_spec : {M : Type 1} → statement M

@@ -6,48 +6,28 @@ use Rattle.replay.proofs.Claimed.{answers-none, answers-wrong, answers-right}
 use Rattle.replay.proofs.claims.answer_of.Statement.{statement}
 use Rattle.replay.proofs.claims.answer_of.Tie as tie
 
-returns : tie.Need-returns
+returns : tie.Need-returns-then-n-i
 returns c =
-    let a = c.before.before.args in
-    answers-none a.logs.now a.n a.answers.now a.rid a.num _ c.before.claim-at.ensures a.o c.if1.true
+    let a = c.args in
+    answers-none a.logs.now a.n a.answers.now a.rid a.num _ c.claim_at-i.ensures a.o c.if-n-i.true
 
--- the way back from the line's answer
-module _ (s : tie.After-v) where
-  abbrev at-entry-at : tie.After-entry-at
-  at-entry-at = s.before
+element-copy-out-v : tie.Need-bounds-answers-i
+element-copy-out-v c = omega (arith, c.requires.few)
 
-  abbrev at-if1 : tie.Else1
-  at-if1 = at-entry-at.before
-
-  abbrev at-claim-at : tie.After-claim-at
-  at-claim-at = at-if1.before
-
-  abbrev start : tie.Start
-  start = at-claim-at.before
-
-element-copy-out-v : tie.Need-element-copy-out-v
-element-copy-out-v c = omega (arith, c.before.before.before.requires.few)
-
-returns-2 : tie.Need-returns-2
+returns-2 : tie.Need-returns-then-same_op
 returns-2 c =
-    let compares = c.before in
-    let shows = compares.before in
-    let s = shows.before in
-    let a = (start s).args in
-    answers-right a.logs.now a.n a.answers.now a.rid a.num _ (at-claim-at s).claim-at.ensures a.o
-    (at-if1 s).if1.false _ (at-entry-at s).entry_at.ensures _ shows.shown.ensures (sym compares.same_op.ensures ∙ c.if2.true)
+    let a = c.args in
+    answers-right a.logs.now a.n a.answers.now a.rid a.num _ c.claim_at-i.ensures a.o
+    c.if-n-i.false _ c.entry_at-x.ensures _ c.shown.ensures (sym c.same_op.ensures ∙ c.if-same_op.true)
 
-returns-3 : tie.Need-returns-3
+returns-3 : tie.Need-returns-else-same_op
 returns-3 c =
-    let compares = c.before in
-    let shows = compares.before in
-    let s = shows.before in
-    let a = (start s).args in
-    answers-wrong a.logs.now a.n a.answers.now a.rid a.num _ (at-claim-at s).claim-at.ensures a.o
-    (at-if1 s).if1.false _ (at-entry-at s).entry_at.ensures _ shows.shown.ensures (sym compares.same_op.ensures ∙ c.if2.false)
+    let a = c.args in
+    answers-wrong a.logs.now a.n a.answers.now a.rid a.num _ c.claim_at-i.ensures a.o
+    c.if-n-i.false _ c.entry_at-x.ensures _ c.shown.ensures (sym c.same_op.ensures ∙ c.if-same_op.false)
 
-pub answer-of-spec : {M : Type 1} → statement M
-answer-of-spec =
+pub answer_of_spec : {M : Type 1} → statement M
+answer_of_spec =
     tie.close
     (tie.spec
     (λ c κs. (c.requires.few, c.requires.index))

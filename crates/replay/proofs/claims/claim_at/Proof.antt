@@ -9,65 +9,47 @@ use Rattle.replay.proofs.Links.{Walking, walk_start, walk-hit, walk_end, walk-do
 use Rattle.replay.proofs.claims.claim_at.Statement.{statement}
 use Rattle.replay.proofs.claims.claim_at.Tie as tie
 
-abbrev invariant-loop : tie.invariant-loop
+abbrev invariant-loop : tie.invariant-loop-j
 invariant-loop logs n heads afters rid num j₀ j = Walking (entry_at logs) n rid num j
 
-abbrev decreases-loop : tie.decreases-loop
+abbrev decreases-loop : tie.decreases-loop-j
 decreases-loop logs n heads afters rid num j₀ j = n - j
 
-loop-holds : tie.Need-loop-init invariant-loop decreases-loop
+loop-holds : tie.Need-loop-j-init invariant-loop decreases-loop
 loop-holds c =
-    let s = c.before.before.before in
-    walk_start _ _ s.requires.0 s.args.heads.now s.args.afters.now _ _ s.requires.1 _
-    (c.index_of.ensures ∙ ap (λ b. get_or s.args.heads.now b 0) c.before.before.bucket.ensures)
+    walk_start _ _ c.requires.0 c.args.heads.now c.args.afters.now _ _ c.requires.1 _
+    (c.index_of-j.ensures ∙ ap (λ b. get_or c.args.heads.now b 0) c.bucket.ensures)
 
 -- the way back from the loop
-abbrev start : tie.At-loop invariant-loop decreases-loop → tie.Start invariant-loop decreases-loop
-start l = l.before.before.before.before
 
--- and from where a line was tested
-module _ (q : tie.After-is-claim invariant-loop decreases-loop) where
-  abbrev at-loop-test : tie.In-loop invariant-loop decreases-loop
-  at-loop-test = q.before
-
-  abbrev at-loop : tie.At-loop invariant-loop decreases-loop
-  at-loop = at-loop-test.before
-
-returns : tie.Need-returns invariant-loop decreases-loop
+returns : tie.Need-returns-then-is_claim invariant-loop decreases-loop
 returns c =
-    let q = c.before in
-    let s = start (at-loop q) in
-    walk-hit _ _ s.pre.0 s.args.heads.now s.args.afters.now _ _ s.pre.1 _ (at-loop q).loop.invariant
-    (sym q.is-claim.ensures ∙ c.if1.true)
+    walk-hit _ _ c.pre.0 c.args.heads.now c.args.afters.now _ _ c.pre.1 _ c.loop-j.invariant
+    (sym c.is_claim.ensures ∙ c.if-is_claim.true)
 
-element-copy-out-index-of-2 : tie.Need-element-copy-out-index-of-2 invariant-loop decreases-loop
+element-copy-out-index-of-2 : tie.Need-bounds-afters-j invariant-loop decreases-loop
 element-copy-out-index-of-2 c = search rules
 
-loop-less : tie.Need-loop-smaller invariant-loop decreases-loop
+loop-less : tie.Need-loop-j-smaller invariant-loop decreases-loop
 loop-less c =
-    let q = c.before.before.before in
-    let s = start (at-loop q) in
     omega (
       arith,
-      walk-down _ _ s.pre.0 s.args.heads.now s.args.afters.now _ _ s.pre.1 _
-          (at-loop q).loop.invariant (at-loop-test q).loop-test.true _ c.index-of2.ensures,
+      walk-down _ _ c.pre.0 c.args.heads.now c.args.afters.now _ _ c.pre.1 _
+          c.loop-j.invariant c.loop-j-test.true _ c.index_of-j-in-loop-j.ensures,
     )
 
-loop-again : tie.Need-loop-preserved invariant-loop decreases-loop
+loop-again : tie.Need-loop-j-preserved invariant-loop decreases-loop
 loop-again c =
-    let q = c.before.before.before in
-    let s = start (at-loop q) in
-    walk-on _ _ s.pre.0 s.args.heads.now s.args.afters.now _ _ s.pre.1 _
-    (at-loop q).loop.invariant (at-loop-test q).loop-test.true _ c.index-of2.ensures
-    (sym q.is-claim.ensures ∙ c.before.before.if1.false)
+    walk-on _ _ c.pre.0 c.args.heads.now c.args.afters.now _ _ c.pre.1 _
+    c.loop-j.invariant c.loop-j-test.true _ c.index_of-j-in-loop-j.ensures
+    (sym c.is_claim.ensures ∙ c.if-is_claim.false)
 
-returns-2 : tie.Need-returns-2 invariant-loop decreases-loop
+returns-2 : tie.Need-returns invariant-loop decreases-loop
 returns-2 c =
-    let s = start c.before in
-    walk_end _ _ s.pre.0 s.args.heads.now s.args.afters.now _ _ s.pre.1 _ c.before.loop.invariant (omega arith)
+    walk_end _ _ c.pre.0 c.args.heads.now c.args.afters.now _ _ c.pre.1 _ c.loop-j.invariant (omega arith)
 
-pub claim-at-spec : {M : Type 1} → statement M
-claim-at-spec =
+pub claim_at_spec : {M : Type 1} → statement M
+claim_at_spec =
     tie.close
     (tie.spec
     invariant-loop

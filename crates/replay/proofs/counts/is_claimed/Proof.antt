@@ -5,7 +5,9 @@ use Rattle.replay.proofs.counts.is_claimed.Statement.{statement}
 use Rattle.replay.proofs.counts.is_claimed.Tie as tie
 
 returns : tie.Need-returns
-returns c = claimed-below _ _ _ _ _ c.claim-at.ensures
+returns c = claimed-below _ _ _ _ _ c.claim_at.ensures
 
-pub is-claimed-spec : {M : Type 1} → statement M
-is-claimed-spec = tie.close (tie.spec (λ c κs. search rules) returns)
+pub is_claimed_spec : {M : Type 1} → statement M
+is_claimed_spec = tie.close (tie.spec
+    (λ c κs. search rules)
+    returns)

@@ -13,10 +13,10 @@ use borrow.Author.Rules.{rules}
 use Rattle.replay.proofs.counts.row_8.Statement.{statement}
 use Rattle.replay.proofs.counts.row_8.Tie as tie
 
-abbrev invariant-loop : tie.invariant-loop
+abbrev invariant-loop : tie.invariant-loop-k
 invariant-loop ofs m logs n heads afters i rid k₀ k = Counting (firsts (entry_at logs) n) rid k₀ k
 
-abbrev decreases-loop : tie.decreases-loop
+abbrev decreases-loop : tie.decreases-loop-k
 decreases-loop ofs m logs n heads afters i rid k₀ k = k
 
 abbrev invariant-lines : tie.invariant-lines
@@ -28,33 +28,31 @@ decreases-lines ofs m logs n heads afters i₀ i = m - i
 lines-holds : tie.Need-lines-init invariant-loop decreases-loop invariant-lines decreases-lines
 lines-holds c = scan-start
 
-loop-holds : tie.Need-loop-init invariant-loop decreases-loop invariant-lines decreases-lines
+loop-holds : tie.Need-loop-k-init invariant-loop decreases-loop invariant-lines decreases-lines
 loop-holds c = count-start
 
-loop-again : tie.Need-loop-preserved invariant-loop decreases-loop invariant-lines decreases-lines
+loop-again : tie.Need-loop-k-preserved invariant-loop decreases-loop invariant-lines decreases-lines
 loop-again c =
-    let at-loop = c.before.before.before in
-    count-on at-loop.loop.invariant (search rules) (sym c.before.is-claimed.ensures ∙ not-false _ c.if1.false)
+    count-on c.loop-k.invariant (search rules) (sym c.is_claimed.ensures ∙ not-false _ c.if-not-is_claimed.false)
 
 lines-again : tie.Need-lines-preserved invariant-loop decreases-loop invariant-lines decreases-lines
 lines-again c =
-    let at-lines = c.before.before.before.before in
-    counts_all _ at-lines.lines.invariant (search rules) _ c.before.before.of_at.ensures
-    (count-end c.before.loop.invariant (search rules))
+    counts_all _ c.lines.invariant (search rules) _ c.of_at-x.ensures
+    (count-end c.loop-k.invariant (search rules))
 
-returns : tie.Need-returns invariant-loop decreases-loop invariant-lines decreases-lines
+returns : tie.Need-returns-then-i-m invariant-loop decreases-loop invariant-lines decreases-lines
 returns c =
-    let s = c.before.before.lines.invariant in
+    let s = c.lines.invariant in
     ⊎_elim (λ w. absurd (omega arith))
     (λ w. counts-more _ s w.0.taken _ w.1.ensures
-    (count-not w.2.inv w.3.taken (sym w.4.ensures ∙ not-true _ w.5.taken)))
-    c.before.lines-test.branch
+    (count-not w.2.invariant w.3.taken (sym w.4.ensures ∙ not-true _ w.5.taken)))
+    c.lines-test.branch
 
-returns-2 : tie.Need-returns-2 invariant-loop decreases-loop invariant-lines decreases-lines
-returns-2 c = scan-end c.before.before.lines.invariant (search rules)
+returns-2 : tie.Need-returns-else-i-m invariant-loop decreases-loop invariant-lines decreases-lines
+returns-2 c = scan-end c.lines.invariant (search rules)
 
-pub row-8-spec : {M : Type 1} → statement M
-row-8-spec =
+pub row_8_spec : {M : Type 1} → statement M
+row_8_spec =
     tie.close
     (tie.spec
     invariant-loop

@@ -7,10 +7,15 @@ use Rattle.replay.proofs.orders.line_item.Tie as tie
 
 returns : tie.Need-returns
 returns c =
-    let at-slot-of = c.before.before.before in
-    record { lane_is = refl; place = slot-first _ _ _ _ _ at-slot-of.before.requires.1 at-slot-of.slot_of.ensures.1; number_is = refl }
+    record { lane_is = refl; place = slot-first _ _ _ _ _ c.requires.1 c.slot_of-s.ensures.1; number_is = refl }
 
-pub line-item-spec : {M : Type 1} → statement M
-line-item-spec =
+pub line_item_spec : {M : Type 1} → statement M
+line_item_spec =
     tie.close
-    (tie.spec (λ c κs. search rules) (λ c. search rules) (λ c. search rules) (λ c. search rules) (λ c. search rules) returns)
+    (tie.spec
+    (λ c κs. search rules)
+    (λ c. search rules)
+    (λ c. search rules)
+    (λ c. search rules)
+    (λ c. search rules)
+    returns)

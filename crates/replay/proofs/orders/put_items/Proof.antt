@@ -10,33 +10,33 @@ use Rattle.replay.proofs.Items.{items-start, items_more}
 use Rattle.replay.proofs.orders.put_items.Statement.{statement}
 use Rattle.replay.proofs.orders.put_items.Tie as tie
 
-abbrev invariant-loop : tie.invariant-loop
+abbrev invariant-loop : tie.invariant-loop-i
 invariant-loop events t ofs m logs n lane₀ request₀ number₀ heads i₀ lane request number i =
     (t ≤ 128) × (m ≤ 64) × (n ≤ 1024) × (i ≤ n + t) × Slots ofs m heads × ItemsTo (arrays events t ofs m logs n) i lane request number
 
-abbrev decreases-loop : tie.decreases-loop
+abbrev decreases-loop : tie.decreases-loop-i
 decreases-loop events t ofs m logs n lane₀ request₀ number₀ heads i₀ lane request number i = n + t - i
 
-loop-holds : tie.Need-loop-init invariant-loop decreases-loop
+loop-holds : tie.Need-loop-i-init invariant-loop decreases-loop
 loop-holds c =
-    let p = c.before.requires in
-    let a = c.before.args in
+    let p = c.requires in
+    let a = c.args in
     let z : min a.m 64 ≡ a.m = omega (arith, p.1) in
-    (p.0, p.1, p.2, omega arith, rw z at c.first-slots.ensures, items-start _ _ _ _ p.3 p.4 p.5)
+    (p.0, p.1, p.2, omega arith, rw z at c.first_slots-heads.ensures, items-start _ _ _ _ p.3 p.4 p.5)
 
-loop-again : tie.Need-loop-preserved invariant-loop decreases-loop
+loop-again : tie.Need-loop-i-preserved invariant-loop decreases-loop
 loop-again c =
-    let v = c.before.before.before.loop.invariant in
-    (v.0, v.1, v.2, omega arith, v.4, items_more _ _ _ _ _ _ _ _ v.5 (omega arith) c.item-at.ensures)
+    let v = c.loop-i.invariant in
+    (v.0, v.1, v.2, omega arith, v.4, items_more _ _ _ _ _ _ _ _ v.5 (omega arith) c.item_at-x.ensures)
 
 returns : tie.Need-returns invariant-loop decreases-loop
 returns c =
-    let a = c.before.before.before.args in
-    let z : c.before.loop.i ≡ a.n + a.t = omega arith in
-    rw z at c.before.loop.invariant.5
+    let a = c.args in
+    let z : c.loop-i.i ≡ a.n + a.t = omega arith in
+    rw z at c.loop-i.invariant.5
 
-pub put-items-spec : {M : Type 1} → statement M
-put-items-spec =
+pub put_items_spec : {M : Type 1} → statement M
+put_items_spec =
     tie.close
     (tie.spec
     invariant-loop

@@ -8,28 +8,24 @@ use Rattle.replay.proofs.orders.put_order.Statement.{statement}
 use Rattle.replay.proofs.orders.put_order.Tie as tie
 
 -- the way back from where the items were put
-abbrev start : tie.After-put-items → tie.Start
-start i = i.before.before.before.before
 
-slice-aggregate-merge : tie.Need-slice-aggregate-merge
+slice-aggregate-merge : tie.Need-slice_bounds-merge-end
 slice-aggregate-merge c =
-    let i = c.before in
-    let p = (start i).requires in
-    sym (length-take-le _ _ (omega (arith, p.0, p.2, i.put-items.ensures.lane_room)))
+    let p = c.requires in
+    sym (length-take-le _ _ (omega (arith, p.0, p.2, c.put_items.ensures.lane_room)))
 
 returns : tie.Need-returns
 returns c =
-    let m = c.before.merge.ensures in
-    let i = c.before.before.before.before.before.before in
-    let p = (start i).requires in
-    let w = i.put-items.ensures in
-    let o = (start i).args.order.now in (
+    let m = c.merge-merged.ensures in
+    let p = c.requires in
+    let w = c.put_items.ensures in
+    let o = c.args.order.now in (
       merge-returns _ p.0 p.1 p.2 _ _ _ w _ o refl p.3 _ m.1,
       merge-orders _ p.0 p.1 p.2 _ _ _ w _ o refl p.3 _ m.1 _ m.0,
     )
 
-pub put-order-spec : {M : Type 1} → statement M
-put-order-spec =
+pub put_order_spec : {M : Type 1} → statement M
+put_order_spec =
     tie.close
     (tie.spec
     (λ c κs. search rules)

@@ -6,89 +6,59 @@ use Rattle.replay.proofs.Replaying.{Going, going_start, going-no-further, going-
 use Rattle.replay.proofs.replays.replay.Statement.{statement}
 use Rattle.replay.proofs.replays.replay.Tie as tie
 
-abbrev invariant-loop : tie.invariant-loop
+abbrev invariant-loop : tie.invariant-loop-done
 invariant-loop is_open slot logs n heads afters answers paths₀ p l₀ rid count base at₀ done₀ k₀ most₀ paths l at done k most =
     Going logs n answers rid count is_open base p.code l₀ paths₀ l at done paths k most
 
-abbrev decreases-loop : tie.decreases-loop
+abbrev decreases-loop : tie.decreases-loop-done
 decreases-loop is_open slot logs n heads afters answers paths₀ p l₀ rid count base at₀ done₀ k₀ most₀ paths l at done k most = 256 - done
 
-loop-holds : tie.Need-loop-init invariant-loop decreases-loop
-loop-holds c = going_start _ _ _ _ _ _ _ _ _ _ _ c.most-of.ensures (omega arith) c.before.before.requires.1
+loop-holds : tie.Need-loop-done-init invariant-loop decreases-loop
+loop-holds c = going_start _ _ _ _ _ _ _ _ _ _ _ c.most_of-most.ensures (omega arith) c.requires.1
 
--- the way back from where an instruction was carried out
-module _ (r : tie.After-carry-out invariant-loop decreases-loop) where
-  abbrev at-loop-test : tie.In-loop invariant-loop decreases-loop
-  at-loop-test = r.before.before.before
-
-  abbrev at-loop : tie.At-loop invariant-loop decreases-loop
-  at-loop = at-loop-test.before
-
-  abbrev at-first-locals : tie.After-first-locals invariant-loop decreases-loop
-  at-first-locals = at-loop.before.before
-
-loop-again : tie.Need-loop-preserved invariant-loop decreases-loop
+loop-again : tie.Need-loop-done-preserved-in-Goes invariant-loop decreases-loop
 loop-again c =
-    let r = c.before.before.before in
-    going-moved _ _ _ _ _ _ _ _ _ _ _ _ _ _ _ _ (at-loop r).loop.invariant (at-loop-test r).loop-test.true
-    _ _ r.carry-out.ensures
-    _ c.before.to.given.1
+    going-moved _ _ _ _ _ _ _ _ _ _ _ _ _ _ _ _ c.loop-done.invariant c.loop-done-test.true
+    _ _ c.carry_out.ensures
+    _ c.to-1.given.1
 
-returns : tie.Need-returns invariant-loop decreases-loop
+returns : tie.Need-returns-then-count-k invariant-loop decreases-loop
 returns c =
-    let r = c.before.before.before.before in
-    going-over _ _ _ _ _ _ _ _ _ _ _ _ _ _ _ _ (at-loop r).loop.invariant (at-loop-test r).loop-test.true
-    _ _ r.carry-out.ensures
-    _ _ c.before.before.o.given.1 c.if1.true
-    _ _ (at-first-locals r).first-locals.ensures
+    going-over _ _ _ _ _ _ _ _ _ _ _ _ _ _ _ _ c.loop-done.invariant c.loop-done-test.true
+    _ _ c.carry_out.ensures
+    _ _ c.o-1.given.1 c.if-count-k.true
+    _ _ c.first_locals-l.ensures
 
--- and from where an operation's answer was looked up
-module _ (a : tie.After-answer-of invariant-loop decreases-loop) where
-  abbrev at-o : tie.After-o invariant-loop decreases-loop
-  at-o = a.before.before.before
-
-  abbrev at-carry-out : tie.After-carry-out invariant-loop decreases-loop
-  at-carry-out = at-o.before.before
-
-returns-2 : tie.Need-returns-2 invariant-loop decreases-loop
+returns-2 : tie.Need-returns-in-Wrong invariant-loop decreases-loop
 returns-2 c =
-    let a = c.before.before in
-    let r = at-carry-out a in
-    going-wrong _ _ _ _ _ _ _ _ _ _ _ _ _ _ _ _ (at-loop r).loop.inv (at-loop-test r).loop-test.taken
-    _ _ r.carry-out.ensures
-    _ _ (at-o a).o.given.1 a.before.if1.false
-    _ a.answer-of.ensures c.enum_told.given.1
-    _ _ (at-first-locals r).first-locals.ensures
+    going-wrong _ _ _ _ _ _ _ _ _ _ _ _ _ _ _ _ c.loop-done.invariant c.loop-done-test.true
+    _ _ c.carry_out.ensures
+    _ _ c.o-1.given.1 c.if-count-k.false
+    _ c.answer_of.ensures c.enum_told-1.given.1
+    _ _ c.first_locals-l.ensures
 
-loop-again-2 : tie.Need-loop-preserved-2 invariant-loop decreases-loop
+loop-again-2 : tie.Need-loop-done-preserved invariant-loop decreases-loop
 loop-again-2 c =
-    let at-resume = c.before in
-    let at-v = at-resume.before.before.before in
-    let a = at-v.before.before in
-    let r = at-carry-out a in
-    rw at-resume.resume.ensures
-    (going-right _ _ _ _ _ _ _ _ _ _ _ _ _ _ _ _ (at-loop r).loop.inv (at-loop-test r).loop-test.taken
-    _ _ r.carry-out.ensures
-    _ _ (at-o a).o.given.1 a.before.if1.false
-    _ _ a.answer-of.ensures at-v.v.given.1 _ c.most-of2.ensures)
+    rw c.resume.ensures
+    (going-right _ _ _ _ _ _ _ _ _ _ _ _ _ _ _ _ c.loop-done.invariant c.loop-done-test.true
+    _ _ c.carry_out.ensures
+    _ _ c.o-1.given.1 c.if-count-k.false
+    _ _ c.answer_of.ensures c.v-1.given.1 _ c.most_of-most-in-Right.ensures)
 
-returns-3 : tie.Need-returns-3 invariant-loop decreases-loop
+returns-3 : tie.Need-returns-in-Replies invariant-loop decreases-loop
 returns-3 c =
-    let r = c.before.before.before.before in
-    going-replied _ _ _ _ _ _ _ _ _ _ _ _ _ _ _ _ (at-loop r).loop.invariant (at-loop-test r).loop-test.true
-    _ _ r.carry-out.ensures
-    _ c.before.before.v2.given.1 _ c.stopped.ensures
-    _ _ (at-first-locals r).first-locals.ensures
+    going-replied _ _ _ _ _ _ _ _ _ _ _ _ _ _ _ _ c.loop-done.invariant c.loop-done-test.true
+    _ _ c.carry_out.ensures
+    _ c.v-in-Replies-1.given.1 _ c.stopped.ensures
+    _ _ c.first_locals-l.ensures
 
-returns-4 : tie.Need-returns-4 invariant-loop decreases-loop
+returns-4 : tie.Need-returns invariant-loop decreases-loop
 returns-4 c =
-    let at-unreplied = c.before in
-    let l = at-unreplied.before.before in
-    going-no-further _ _ _ _ _ _ _ _ _ _ _ _ _ _ _ _ l.loop.invariant (omega arith) _ at-unreplied.unreplied.ensures _ c.stopped2.ensures
-    _ _ l.before.before.first-locals.ensures
+    going-no-further _ _ _ _ _ _ _ _ _ _ _ _ _ _ _ _ c.loop-done.invariant (omega arith) _ c.unreplied.ensures _ c.stopped-2.ensures
+    _ _ c.first_locals-l.ensures
 
-pub replay-spec : {M : Type 1} → statement M
-replay-spec =
+pub replay_spec : {M : Type 1} → statement M
+replay_spec =
     tie.close
     (tie.spec
     invariant-loop

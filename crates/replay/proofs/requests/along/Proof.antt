@@ -9,29 +9,26 @@ use Rattle.replay.proofs.Paths.{lengths_differ}
 use Rattle.replay.proofs.requests.along.Statement.{statement}
 use Rattle.replay.proofs.requests.along.Tie as tie
 
-returns : tie.Need-returns
+returns : tie.Need-returns-then-k-f
 returns c =
-    let a = c.before.args in
-    rw c.if1.true (sym (path-same (path_at a.progs.now a.lengths.now a.paths.now a.f)))
+    let a = c.args in
+    rw c.if-k-f.true (sym (path-same (path_at a.progs.now a.lengths.now a.paths.now a.f)))
 
-returns-2 : tie.Need-returns-2
-returns-2 c = rw (ne_eqb _ _ c.if2.true)
+returns-2 : tie.Need-returns-then-progs-k
+returns-2 c = rw (ne_eqb _ _ c.if-progs-k.true)
 
-returns-3 : tie.Need-returns-3
+returns-3 : tie.Need-returns-then-lengths-f
 returns-3 c =
-    let at-if2 = c.before.before.before in
-    let start = at-if2.before.before.before.before in
-    let a = start.args in
-    rw (eq-eqb _ _ at-if2.if2.false)
-    (lengths_differ a.paths.now (a.k * 256) (a.f * 256) _ _ (λ e. c.if3.true (sym e)))
+    let a = c.args in
+    rw (eq-eqb _ _ c.if-progs-k.false)
+    (lengths_differ a.paths.now (a.k * 256) (a.f * 256) _ _ (λ e. c.if-lengths-f.true (sym e)))
 
-returns-4 : tie.Need-returns-4
+returns-4 : tie.Need-returns
 returns-4 c =
-    let at-if2 = c.before.before.before.before in
-    rw (eq-eqb _ _ at-if2.if2.false, c.before.if3.false) c.same-path.ensures
+    rw (eq-eqb _ _ c.if-progs-k.false, c.if-lengths-f.false) c.same_path.ensures
 
-pub along-spec : {M : Type 1} → statement M
-along-spec =
+pub along_spec : {M : Type 1} → statement M
+along_spec =
     tie.close
     (tie.spec
     returns

@@ -8,97 +8,68 @@ use Rattle.replay.proofs.Judging.{Judging, Step, step_of, row-ready, judging-sta
 use Rattle.replay.proofs.requests.judge_requests.Statement.{statement}
 use Rattle.replay.proofs.requests.judge_requests.Tie as tie
 
-abbrev invariant-loop : tie.invariant-loop
+abbrev invariant-loop : tie.invariant-loop-k
 invariant-loop events t ofs m logs n heads afters answers ps paths₀ lengths₀ progs₀ k₀ paths lengths progs k =
     Judging ps.table (arrays events t ofs m logs n) answers progs lengths paths k
 
-abbrev decreases-loop : tie.decreases-loop
+abbrev decreases-loop : tie.decreases-loop-k
 decreases-loop events t ofs m logs n heads afters answers ps paths₀ lengths₀ progs₀ k₀ paths lengths progs k = m - k
 
-loop-holds : tie.Need-loop-init invariant-loop decreases-loop
+loop-holds : tie.Need-loop-k-init invariant-loop decreases-loop
 loop-holds c = judging-start _ _ _ _ _ _ c.requires.0 refl refl refl
 
--- the way back from where the request was replayed
-module _ (c : tie.After-replay invariant-loop decreases-loop) where
-  abbrev at-left-open : tie.After-left-open invariant-loop decreases-loop
-  at-left-open = c.before.before.before
-
-  abbrev at-response : tie.After-response-of invariant-loop decreases-loop
-  at-response = at-left-open.before
-
-  abbrev at_of : tie.After-of-at invariant-loop decreases-loop
-  at_of = at-response.before.before.before
-
-  abbrev at_test : tie.In-loop invariant-loop decreases-loop
-  at_test = at_of.before.before
-
-  abbrev at-loop : tie.At-loop invariant-loop decreases-loop
-  at-loop = at_test.before
-
 -- and what was looked up on it, up to its row
-module _ (c : tie.After-row-of invariant-loop decreases-loop) where
-  abbrev at_done : tie.After-done-of invariant-loop decreases-loop
-  at_done = c.before.before.before.before
-
-  abbrev at-replay : tie.After-replay invariant-loop decreases-loop
-  at-replay = at_done.before
+module _ (c : tie.After-row_of-row invariant-loop decreases-loop) where
 
   looked :
-      let a = (at-loop at-replay).before.args in
-      let l = (at-loop at-replay).loop in
+      let a = c.args in
+      let l = c.loop-k in
       Step a.t1.table (arrays a.events.now a.t a.ofs.now a.m a.logs.now a.n) a.answers.now
-      (at_of at-replay).of_at.result l.k l.progs l.lengths l.paths at-replay.replay.last.1.1.1.1.1.1.1.1.1.1.0
-      (at-response at-replay).before.arrival-at.result at_done.done-of.result c.row_of.result
+      c.of_at-x.result l.k l.progs l.lengths l.paths c.replay-end.new.paths
+      c.arrival_at-start.result c.done_of.result c.row_of-row.result
   looked =
       record {
         s = _;
         f = _;
-        reply = (at-response at-replay).response-of.result;
+        reply = c.response_of-reply.result;
         is_open = _;
         program = _;
         end = _;
-        requests = (at-response at-replay).before.before.event-of.ensures;
-        starts = (at-response at-replay).before.arrival-at.ensures;
-        replies = (at-response at-replay).response-of.ensures;
-        opened = (at-left-open at-replay).left_open.ensures;
+        requests = c.event_of.ensures;
+        starts = c.arrival_at-start.ensures;
+        replies = c.response_of-reply.ensures;
+        opened = c.left_open-is_open.ensures;
         programs = refl;
-        replays = at-replay.replay.ensures;
-        done = at_done.done-of.ensures;
-        group = (at_of at-replay).before.first-of-group.ensures;
-        row_is = c.row_of.ensures;
+        replays = c.replay-end.ensures;
+        done = c.done_of.ensures;
+        group = c.first_of_group-f.ensures;
+        row_is = c.row_of-row.ensures;
       }
 
-replay-requires : tie.Need-replay-requires invariant-loop decreases-loop
+replay-requires : tie.Need-replay-end-requires invariant-loop decreases-loop
 replay-requires c κs =
-    let at-response = c.before.before.before in
-    let at_of = at-response.before.before.before in
-    let at-loop = at_of.before.before.before in
-    (omega (arith, at-loop.loop.invariant.few), at-loop.loop.invariant.paths_room, at-loop.before.requires.1)
+    (omega (arith, c.loop-k.invariant.few), c.loop-k.invariant.paths_room, c.requires.1)
 
-row-of-requires : tie.Need-row-of-requires invariant-loop decreases-loop
+row-of-requires : tie.Need-row_of-row-requires invariant-loop decreases-loop
 row-of-requires c κs =
-    let d = c.before.before.before in
-    let r = d.before in
-    row-ready _ _ _ _ _ _ _ _ _ _ (at-loop r).loop.invariant (at_test r).loop-test.true (at_of r).before.first-of-group.ensures
-    d.done-of.ensures r.replay.ensures.few
+    row-ready _ _ _ _ _ _ _ _ _ _ c.loop-k.invariant c.loop-k-test.true c.first_of_group-f.ensures
+    c.done_of.ensures c.replay-end.ensures.few
 
-returns : tie.Need-returns invariant-loop decreases-loop
+returns : tie.Need-returns-then-row-ne0 invariant-loop decreases-loop
 returns c =
-    let r = at-replay c.before in
-    judging-stop _ _ _ (at-loop r).loop.k _ _ _ _ _ _ _ (at-loop r).loop.inv (at_test r).loop-test.taken
-    (step_of _ _ _ _ _ _ _ _ _ _ _ _ (at_of r).of_at.ensures (looked c.before)) c.if1.true
+    judging-stop _ _ _ c.loop-k.k _ _ _ _ _ _ _ c.loop-k.invariant c.loop-k-test.true
+    (step_of _ _ _ _ _ _ _ _ _ _ _ _ c.of_at-x.ensures (looked c.before)) c.if-row-ne0.true
 
-loop-again : tie.Need-loop-preserved invariant-loop decreases-loop
+loop-again : tie.Need-loop-k-preserved invariant-loop decreases-loop
 loop-again c =
-    let r = at-replay c.before in
-    judging-next _ _ _ (at-loop r).loop.k _ _ _ _ _ _ _ (at-loop r).loop.inv (at_test r).loop-test.taken
-    (step_of _ _ _ _ _ _ _ _ _ _ _ _ (at_of r).of_at.ensures (looked c.before)) c.if1.false
+    judging-next _ _ _ c.loop-k.k _ _ _ _ _ _ _ c.loop-k.invariant c.loop-k-test.true
+    (step_of _ _ _ _ _ _ _ _ _ _ _ _ c.of_at-x.ensures (looked c.before)) c.if-row-ne0.false
 
-returns-2 : tie.Need-returns-2 invariant-loop decreases-loop
-returns-2 c = judging-end _ _ _ _ _ _ _ c.before.loop.invariant (omega arith)
+returns-2 : tie.Need-returns invariant-loop decreases-loop
+returns-2 c = judging-end _ _ _ _ _ _ _ c.loop-k.invariant (omega arith)
 
-pub judge-requests-spec : {M : Type 1} → statement M
-judge-requests-spec =
+pub judge_requests_spec : {M : Type 1} → statement M
+judge_requests_spec =
     tie.close
     (tie.spec
     invariant-loop
@@ -119,9 +90,9 @@ judge-requests-spec =
     (λ c. search rules)
     (λ c. search rules)
     row-of-requires
-    (λ c. omega (arith, (at-loop (at-replay c.before)).loop.inv.few))
+    (λ c. omega (arith, (at-loop (at-replay c.before)).loop.invariant.few))
     returns
-    (λ c. omega (arith, (at-loop (at-replay c.before)).loop.inv.few))
+    (λ c. omega (arith, (at-loop (at-replay c.before)).loop.invariant.few))
     (λ c. search rules)
     loop-again
     returns-2)

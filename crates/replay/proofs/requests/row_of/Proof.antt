@@ -7,43 +7,30 @@ use Rattle.replay.proofs.Rows.{row-differs, row-reply, row-path}
 use Rattle.replay.proofs.requests.row_of.Statement.{statement}
 use Rattle.replay.proofs.requests.row_of.Tie as tie
 
--- the way back from where the replies were compared
-module _ (s : tie.After-same-reply) where
-  abbrev at-end : tie.After-end
-  at-end = s.before.before
-
-  abbrev start : tie.Start
-  start = at-end.before.before
-
-returns : tie.Need-returns
+returns : tie.Need-returns-then-not-same_reply
 returns c =
-    let s = c.before in
-    row-reply _ _ _ _ _ _ (at-end s).end.given.1 _ _ _ s.same-reply.ensures c.if1.true
+    row-reply _ _ _ _ _ _ c.end-1.given.1 _ _ _ c.same_reply.ensures c.if-not-same_reply.true
 
 along-requires : tie.Need-along-requires
-along-requires c κs = let p = (start c.before).pre in (p.0, p.1, omega (arith, p.2, p.3))
+along-requires c κs = let p = c.pre in (p.0, p.1, omega (arith, p.2, p.3))
 
-returns-2 : tie.Need-returns-2
-returns-2 c = row-differs _ _ _ _ c.enum_told.given.1 _ _
+returns-2 : tie.Need-returns-in-Differs
+returns-2 c = row-differs _ _ _ _ c.enum_told-1.given.1 _ _
 
-returns-3 : tie.Need-returns-3
+returns-3 : tie.Need-returns-then-along
 returns-3 c =
-    let at-if1 = c.before.before in
-    let s = at-if1.before in
-    ap (λ b. cond b 0 12) (sym c.if2.true)
-    ∙ row-path _ _ _ _ _ _ (at-end s).end.given.1 _ _ _ s.same-reply.ensures at-if1.if1.false
-    _ (start s).requires.2 _ c.before.along.ensures
+    ap (λ b. cond b 0 12) (sym c.if-along.true)
+    ∙ row-path _ _ _ _ _ _ c.end-1.given.1 _ _ _ c.same_reply.ensures c.if-not-same_reply.false
+    _ c.requires.2 _ c.along.ensures
 
-returns-4 : tie.Need-returns-4
+returns-4 : tie.Need-returns-else-along
 returns-4 c =
-    let at-if1 = c.before.before in
-    let s = at-if1.before in
-    ap (λ b. cond b 0 12) (sym c.if2.false)
-    ∙ row-path _ _ _ _ _ _ (at-end s).end.given.1 _ _ _ s.same-reply.ensures at-if1.if1.false
-    _ (start s).requires.2 _ c.before.along.ensures
+    ap (λ b. cond b 0 12) (sym c.if-along.false)
+    ∙ row-path _ _ _ _ _ _ c.end-1.given.1 _ _ _ c.same_reply.ensures c.if-not-same_reply.false
+    _ c.requires.2 _ c.along.ensures
 
-pub row-of-spec : {M : Type 1} → statement M
-row-of-spec =
+pub row_of_spec : {M : Type 1} → statement M
+row_of_spec =
     tie.close
     (tie.spec
     (λ c. search rules)

@@ -10,31 +10,30 @@ use borrow.Author.Rules.{rules}
 use Rattle.rows.proofs.reports.pack_claims.Statement.{statement}
 use Rattle.rows.proofs.reports.pack_claims.Tie as tie
 
-abbrev invariant-loop : tie.invariant-loop
+abbrev invariant-loop : tie.invariant-loop-i
 invariant-loop logs n column₀ i₀ column i = (i ≤ n) × (length column ≡ 1024) ×
     ((j : ℕ) → j < i → get_or column j 0 ≡ packed (entry_at logs j).rid (entry_at logs j).num)
 
-abbrev decreases-loop : tie.decreases-loop
+abbrev decreases-loop : tie.decreases-loop-i
 decreases-loop logs n column₀ i₀ column i = n - i
 
-loop-holds : tie.Need-loop-init invariant-loop decreases-loop
+loop-holds : tie.Need-loop-i-init invariant-loop decreases-loop
 loop-holds c = (search rules, search rules, λ j h. absurd (omega arith))
 
-loop-again : tie.Need-loop-preserved invariant-loop decreases-loop
+loop-again : tie.Need-loop-i-preserved invariant-loop decreases-loop
 loop-again c =
-    let at-loop = c.before.before.before in
-    let at-start = at-loop.before in (
+    (
       search rules,
       search rules,
-      packed_more _ at-loop.loop.column at-start.args.n at-loop.loop.i _ _
-          c.before.entry_at.ensures c.pack.ensures (search rules) at-loop.loop.invariant.2,
+      packed_more _ c.loop-i.column c.args.n c.loop-i.i _ _
+          c.entry_at-l.ensures c.pack-p.ensures (search rules) c.loop-i.invariant.2,
     )
 
 returns : tie.Need-returns invariant-loop decreases-loop
-returns c = record { few = c.before.before.requires.0; claim = λ i h. c.before.loop.invariant.2 i (omega arith) }
+returns c = record { few = c.requires.0; claim = λ i h. c.loop-i.invariant.2 i (omega arith) }
 
-pub pack-claims-spec : {M : Type 1} → statement M
-pack-claims-spec =
+pub pack_claims_spec : {M : Type 1} → statement M
+pack_claims_spec =
     tie.close
     (tie.spec
     invariant-loop

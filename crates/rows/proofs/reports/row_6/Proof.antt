@@ -26,47 +26,42 @@ decreases-lines events t ofs m i₀ j₀ i j = t - i
 lines-holds : tie.Need-lines-init invariant-lines decreases-lines
 lines-holds c = match-start
 
-add-j : tie.Need-overflow-add-j invariant-lines decreases-lines
+add-j : tie.Need-overflow_add-j invariant-lines decreases-lines
 add-j c =
-    let at-lines = c.before.before.before.before.before.before.before.before.before in
-    omega (arith, at-lines.lines.invariant.few)
+    omega (arith, c.lines.invariant.few)
 
-lines-again : tie.Need-lines-preserved invariant-lines decreases-lines
+lines-again : tie.Need-lines-preserved-in-Request invariant-lines decreases-lines
 lines-again c =
-    let at-rid = c.before.before.before.before.before in
-    let at-event-at = at-rid.before.before in
-    let at-lines = at-event-at.before.before in
-    match-on at-lines.lines.invariant (search rules) _ at-event-at.event-at.ensures _ _ _ _ at-rid.rid.given.1 (search rules) _
-    c.before.before.of_at.ensures c.if2.false
+    match-on c.lines.invariant (search rules) _ c.event_at.ensures _ _ _ _ c.rid-1.given.1 (search rules) _
+    c.of_at-x.ensures c.if-x-rid.false
 
-lines-again-2 : tie.Need-lines-preserved-2 invariant-lines decreases-lines
+lines-again-2 : tie.Need-lines-preserved invariant-lines decreases-lines
 lines-again-2 c =
-    let at-lines = c.before.before.before.before in
-    match-response at-lines.lines.invariant (search rules) _ c.before.before.event-at.ensures _ _ _ c.enum_told.given.1
+    match-response c.lines.invariant (search rules) _ c.event_at.ensures _ _ _ c.enum_told-1.given.1
 
-add-t13 : tie.Need-overflow-add-t13 invariant-lines decreases-lines
-add-t13 c = omega (arith, c.before.before.lines.invariant.behind)
+add-t13 : tie.Need-overflow_add-result invariant-lines decreases-lines
+add-t13 c = omega (arith, c.lines.invariant.behind)
 
-returns : tie.Need-returns invariant-lines decreases-lines
+returns : tie.Need-returns-then-i-t invariant-lines decreases-lines
 returns c =
-    let s = c.before.before.lines.invariant in
+    let s = c.lines.invariant in
     ⊎_elim (λ w. absurd (omega arith))
     (⊎_elim
     (λ w. match-few s w.0.taken _ w.1.ensures _ _ _ _ w.3.given.1 w.5.taken)
     (λ w. match-other s w.0.taken _ w.1.ensures _ _ _ _ w.3.given.1 w.5.left _ w.6.ensures w.8.taken))
-    c.before.lines-test.branch
+    c.lines-test.branch
 
-add-t14 : tie.Need-overflow-add-t14 invariant-lines decreases-lines
-add-t14 c = omega (arith, c.before.before.before.lines.invariant.few)
+add-t14 : tie.Need-overflow_add-result-then-j-m invariant-lines decreases-lines
+add-t14 c = omega (arith, c.lines.invariant.few)
 
-returns-2 : tie.Need-returns-2 invariant-lines decreases-lines
-returns-2 c = match-over c.before.before.before.lines.invariant (search rules) (search rules)
+returns-2 : tie.Need-returns-then-j-m invariant-lines decreases-lines
+returns-2 c = match-over c.lines.invariant (search rules) (search rules)
 
-returns-3 : tie.Need-returns-3 invariant-lines decreases-lines
-returns-3 c = match-end c.before.before.before.lines.invariant (search rules) (search rules)
+returns-3 : tie.Need-returns invariant-lines decreases-lines
+returns-3 c = match-end c.lines.invariant (search rules) (search rules)
 
-pub row-6-spec : {M : Type 1} → statement M
-row-6-spec =
+pub row_6_spec : {M : Type 1} → statement M
+row_6_spec =
     tie.close
     (tie.spec
     invariant-lines

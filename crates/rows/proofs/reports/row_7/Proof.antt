@@ -5,11 +5,10 @@ use Rattle.rows.proofs.reports.row_7.Tie as tie
 
 returns : tie.Need-returns
 returns c =
-    let at-least2 = c.before.before.before.before in
-    rw (← at-least2.before.least.ensures, ← at-least2.least2.ensures) c.scan-claims.ensures
+    rw (← c.least-m.ensures, ← c.least-n.ensures) c.scan_claims.ensures
 
-pub row-7-spec : {M : Type 1} → statement M
-row-7-spec =
+pub row_7_spec : {M : Type 1} → statement M
+row_7_spec =
     tie.close
     (tie.spec
     (λ c κs. search rules)

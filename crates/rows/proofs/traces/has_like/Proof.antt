@@ -8,31 +8,29 @@ use borrow.Author.Rules.{rules}
 use Rattle.rows.proofs.traces.has_like.Statement.{statement}
 use Rattle.rows.proofs.traces.has_like.Tie as tie
 
-abbrev invariant-loop : tie.invariant-loop
+abbrev invariant-loop : tie.invariant-loop-j
 invariant-loop events n e j₀ j = Passed (λ d. alike d e) (event_at events) n j
 
-abbrev decreases-loop : tie.decreases-loop
+abbrev decreases-loop : tie.decreases-loop-j
 decreases-loop events n e j₀ j = n - j
 
-loop-holds : tie.Need-loop-init invariant-loop decreases-loop
+loop-holds : tie.Need-loop-j-init invariant-loop decreases-loop
 loop-holds c = pass-start
 
-returns : tie.Need-returns invariant-loop decreases-loop
+returns : tie.Need-returns-then-like invariant-loop decreases-loop
 returns c =
-    let at-loop = c.before.before.before.before in
-    pass-hit-in at-loop.loop.invariant _ c.before.before.event-at.ensures (search rules)
-    (sym c.before.like.ensures ∙ c.if1.true)
+    pass-hit-in c.loop-j.invariant _ c.event_at.ensures (search rules)
+    (sym c.like.ensures ∙ c.if-like.true)
 
-loop-again : tie.Need-loop-preserved invariant-loop decreases-loop
+loop-again : tie.Need-loop-j-preserved invariant-loop decreases-loop
 loop-again c =
-    let at-loop = c.before.before.before.before in
-    pass_on at-loop.loop.invariant _ c.before.before.event-at.ensures (search rules) (sym c.before.like.ensures ∙ c.if1.false)
+    pass_on c.loop-j.invariant _ c.event_at.ensures (search rules) (sym c.like.ensures ∙ c.if-like.false)
 
-returns-2 : tie.Need-returns-2 invariant-loop decreases-loop
-returns-2 c = pass-end-in c.before.loop.invariant (search rules)
+returns-2 : tie.Need-returns invariant-loop decreases-loop
+returns-2 c = pass-end-in c.loop-j.invariant (search rules)
 
-pub has-like-spec : {M : Type 1} → statement M
-has-like-spec =
+pub has_like_spec : {M : Type 1} → statement M
+has_like_spec =
     tie.close
     (tie.spec
     invariant-loop

@@ -3,21 +3,19 @@ use borrow.Author.Rules.{rules}
 use Rattle.rows.proofs.traces.like.Statement.{statement}
 use Rattle.rows.proofs.traces.like.Tie as tie
 
-returns : tie.Need-returns
+returns : tie.Need-returns-in-Request-e
 returns c =
-    let at-d = c.before.before.before.before in
-    rw (at-d.d.given.1, c.before.e.given.1)
+    rw (c.d-1.given.1, c.e-1.given.1)
 
-returns-2 : tie.Need-returns-2
-returns-2 c = rw (c.before.before.before.d.given.1, c.enum_told.given.1)
+returns-2 : tie.Need-returns-in-Response-e
+returns-2 c = rw (c.d-1.given.1, c.enum_told-1.given.1)
 
-returns-4 : tie.Need-returns-4
+returns-4 : tie.Need-returns-in-Response-e-2
 returns-4 c =
-    let at-d2 = c.before.before.before.before in
-    rw (at-d2.d2.given.1, c.before.e2.given.1)
+    rw (c.d-in-Response-d-1.given.1, c.e-in-Response-1.given.1)
 
-pub like-spec : {M : Type 1} → statement M
-like-spec =
+pub like_spec : {M : Type 1} → statement M
+like_spec =
     tie.close
     (tie.spec
     (λ c. search rules)

@@ -3,12 +3,17 @@ use borrow.Author.Rules.{rules}
 use Rattle.rows.proofs.traces.may_stand.Statement.{statement}
 use Rattle.rows.proofs.traces.may_stand.Tie as tie
 
-returns : tie.Need-returns
-returns c = rw c.before.e.given.1
+returns : tie.Need-returns-in-Request
+returns c = rw c.e-1.given.1
 
-returns-2 : tie.Need-returns-2
-returns-2 c = rw c.before.before.e2.given.1 c.has-like.ensures
+returns-2 : tie.Need-returns-in-Response
+returns-2 c = rw c.e-in-Response-1.given.1 c.has_like.ensures
 
-pub may-stand-spec : {M : Type 1} → statement M
-may-stand-spec =
-    tie.close (tie.spec (λ c. search rules) (λ c. search rules) (λ c κs. search rules) returns returns-2)
+pub may_stand_spec : {M : Type 1} → statement M
+may_stand_spec =
+    tie.close (tie.spec
+    (λ c. search rules)
+    (λ c. search rules)
+    (λ c κs. search rules)
+    returns
+    returns-2)

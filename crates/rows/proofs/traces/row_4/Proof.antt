@@ -15,10 +15,10 @@ use borrow.Author.Rules.{rules}
 use Rattle.rows.proofs.traces.row_4.Statement.{statement}
 use Rattle.rows.proofs.traces.row_4.Tie as tie
 
-abbrev invariant-loop : tie.invariant-loop
+abbrev invariant-loop : tie.invariant-loop-j
 invariant-loop events t programs i e j₀ j = Passed (λ d. alike d e) (event_at events) i j
 
-abbrev decreases-loop : tie.decreases-loop
+abbrev decreases-loop : tie.decreases-loop-j
 decreases-loop events t programs i e j₀ j = i - j
 
 abbrev invariant-lines : tie.invariant-lines
@@ -30,38 +30,34 @@ decreases-lines events t programs i₀ i = t - i
 lines-holds : tie.Need-lines-init invariant-loop decreases-loop invariant-lines decreases-lines
 lines-holds c = scan-start
 
-loop-holds : tie.Need-loop-init invariant-loop decreases-loop invariant-lines decreases-lines
+loop-holds : tie.Need-loop-j-init invariant-loop decreases-loop invariant-lines decreases-lines
 loop-holds c = pass-start
 
-loop-again : tie.Need-loop-preserved invariant-loop decreases-loop invariant-lines decreases-lines
+loop-again : tie.Need-loop-j-preserved invariant-loop decreases-loop invariant-lines decreases-lines
 loop-again c =
-    let at-loop = c.before.before.before.before in
-    pass_on at-loop.loop.invariant _ c.before.before.event-at2.ensures (search rules) (sym c.before.like.ensures ∙ c.if2.false)
+    pass_on c.loop-j.invariant _ c.event_at.ensures (search rules) (sym c.like.ensures ∙ c.if-like.false)
 
 lines-again : tie.Need-lines-preserved invariant-loop decreases-loop invariant-lines decreases-lines
 lines-again c =
-    let at-may-stand = c.before.before.before in
-    let at-event-at = at-may-stand.before in
-    let at-lines = at-event-at.before.before in
-    stands _ at-lines.lines.invariant (search rules) _ at-event-at.event-at.ensures
-    (sym at-may-stand.may-stand.ensures ∙ not-false _ c.before.before.if1.false)
-    (pass-end c.before.loop.invariant (search rules))
+    stands _ c.lines.invariant (search rules) _ c.event_at-e.ensures
+    (sym c.may_stand.ensures ∙ not-false _ c.if-not-may_stand.false)
+    (pass-end c.loop-j.invariant (search rules))
 
-returns : tie.Need-returns invariant-loop decreases-loop invariant-lines decreases-lines
+returns : tie.Need-returns-then-i-t invariant-loop decreases-loop invariant-lines decreases-lines
 returns c =
-    let s = c.before.before.lines.invariant in
+    let s = c.lines.invariant in
     ⊎_elim (λ w. absurd (omega arith))
     (⊎_elim
     (λ w. stands-not _ s w.0.taken _ w.1.ensures (sym w.2.ensures ∙ not-true _ w.3.taken))
     (λ w. stands-twice _ s w.0.taken _ w.1.ensures
-    (pass-hit w.4.inv _ w.6.ensures w.5.taken (sym w.7.ensures ∙ w.8.taken))))
-    c.before.lines-test.branch
+    (pass-hit w.4.invariant _ w.6.ensures w.5.taken (sym w.7.ensures ∙ w.8.taken))))
+    c.lines-test.branch
 
-returns-2 : tie.Need-returns-2 invariant-loop decreases-loop invariant-lines decreases-lines
-returns-2 c = scan-end c.before.before.lines.invariant (search rules)
+returns-2 : tie.Need-returns-else-i-t invariant-loop decreases-loop invariant-lines decreases-lines
+returns-2 c = scan-end c.lines.invariant (search rules)
 
-pub row-4-spec : {M : Type 1} → statement M
-row-4-spec =
+pub row_4_spec : {M : Type 1} → statement M
+row_4_spec =
     tie.close
     (tie.spec
     invariant-loop

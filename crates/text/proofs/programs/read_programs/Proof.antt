@@ -24,145 +24,120 @@ use borrow.Author.Rules.{rules}
 use Rattle.text.proofs.programs.read_programs.Statement.{statement}
 use Rattle.text.proofs.programs.read_programs.Tie as tie
 
-abbrev invariant-loop : tie.invariant-loop
+abbrev invariant-loop : tie.invariant-loop-at
 invariant-loop s table₀ v₀ number₀ code₀ m₀ n₀ line₀ at₀ table v number code m n line at = Held s table number code m n line at
 
-abbrev decreases-loop : tie.decreases-loop
+abbrev decreases-loop : tie.decreases-loop-at
 decreases-loop s table₀ v₀ number₀ code₀ m₀ n₀ line₀ at₀ table v number code m n line at = length s - at
 
-returns : tie.Need-returns invariant-loop decreases-loop
+returns : tie.Need-returns-then-s-gt-TEXT_BYTES invariant-loop decreases-loop
 returns c = held-long _ _ c.unreadable.ensures (search rules)
 
-loop-holds : tie.Need-loop-init invariant-loop decreases-loop
-loop-holds c = held_start _ _ _ (search rules) c.no-code2.ensures (search rules)
+loop-holds : tie.Need-loop-at-init invariant-loop decreases-loop
+loop-holds c = held_start _ _ _ (search rules) c.no_code-code.ensures (search rules)
 
-returns-2 : tie.Need-returns-2 invariant-loop decreases-loop
+returns-2 : tie.Need-returns-in_default invariant-loop decreases-loop
 returns-2 c =
-    let at-program-line = c.before.before.before in
-    let r = at-program-line.before.before.before.loop.invariant in
-    held-refused r (line-unknown r.reading programs-apart (search rules) _ _ at-program-line.program-line.ensures
-    c.before.enum_told.given.1) _ c.unreadable2.ensures
+    let r = c.loop-at.invariant in
+    held-refused r (line-unknown r.reading programs-apart (search rules) _ _ c.program_line.ensures
+    c.enum_told-1.given.1) _ c.unreadable-in_default.ensures
 
 -- the way back from a line of one of the kinds
-module _ (p : tie.After-known-told invariant-loop decreases-loop) where
-  abbrev at-k : tie.After-k invariant-loop decreases-loop
-  at-k = p.before
-
-  abbrev at-program-line : tie.After-program-line invariant-loop decreases-loop
-  at-program-line = at-k.before.before
-
-  abbrev at-loop : tie.At-loop invariant-loop decreases-loop
-  at-loop = at-program-line.before.before.before
+module _ (p : tie.In-Known invariant-loop decreases-loop) where
 
   -- the line is of kind j
   abbrev Of-kind : ℕ → Type 0
   Of-kind j =
-      let start = at-loop.before.before.before.before.before in
-      Fits program_kinds start.args.s.now at-loop.loop.at j at-k.k.given.0.1.0
-      (numbers_in program_kinds j at-program-line.program-line.last.1.1.0)
+      Fits program_kinds p.args.s.now p.loop-at.at j p.k-1.given.0.1.0
+      (numbers_in program_kinds j p.program_line.new.v)
 
-returns-3 : tie.Need-returns-3 invariant-loop decreases-loop
+returns-3 : tie.Need-returns-then-s-e invariant-loop decreases-loop
 returns-3 c =
-    let p = c.before.before in
-    let r = (at-loop p).loop.invariant in
+    let r = c.loop-at.invariant in
     held-refused r
-    (line-cut r.reading programs-apart (search rules) _ _ (at-program-line p).program-line.ensures _ _ (at-k p).k.given.1 (search rules))
-    _ c.unreadable3.ensures
+    (line-cut r.reading programs-apart (search rules) _ _ c.program_line.ensures _ _ c.k-1.given.1 (search rules))
+    _ c.unreadable-then-s-e.ensures
 
 -- the counts are small
-few : (l : tie.At-loop invariant-loop decreases-loop) → l.loop.m + l.loop.n + l.loop.line ≤ 65616
-few l = let r = l.loop.invariant in omega (arith, r.few, r.current.few, r.reading.lines, r.reading.inside, r.reading.short)
+few : (l : tie.At-loop-at invariant-loop decreases-loop) → l.loop-at.m + l.loop-at.n + l.loop-at.line ≤ 65616
+few l = let r = l.loop-at.invariant in omega (arith, r.few, r.current.few, r.reading.lines, r.reading.inside, r.reading.short)
 
 -- ── a `program` line ──
 
-is-program : (q : tie.At-match2-keys1 invariant-loop decreases-loop) → Of-kind q.before.before 0
+is-program : (q : tie.In-0 invariant-loop decreases-loop) → Of-kind q.before.before 0
 is-program q =
-    let p = q.before.before in
-    is_known program_kinds programs-apart _ _ _ _ (at-program-line p).program-line.ensures _ _ 0 (at-k p).k.given.1
-    q.match2.keys1
+    is_known program_kinds programs-apart _ _ _ _ q.program_line.ensures _ _ 0 q.k-1.given.1
+    q.in-0.keys1
 
-returns-4 : tie.Need-returns-4 invariant-loop decreases-loop
+returns-4 : tie.Need-returns-then-m-ge-PROGRAMS invariant-loop decreases-loop
 returns-4 c =
-    let q = c.before.before in
-    program-full (at-loop q.before.before).loop.inv (search rules) (is-program q) (search rules) _ c.unreadable4.ensures
+    program-full c.loop-at.invariant (search rules) (is-program c.before.before) (search rules) _ c.unreadable-then-m-ge-PROGRAMS.ensures
 
-add-table : tie.Need-overflow-add-table invariant-loop decreases-loop
-add-table c = omega (arith, few (at-loop c.before.before.before))
+add-table : tie.Need-overflow_add-table invariant-loop decreases-loop
+add-table c = omega (arith, few c.before.before.before.before.before.before.before.before.before)
 
-array-set-from-table : tie.Need-array-set-from-table invariant-loop decreases-loop
-array-set-from-table c = omega (arith, (at-loop c.before.before.before).loop.inv.room)
+array-set-from-table : tie.Need-bounds-table-m invariant-loop decreases-loop
+array-set-from-table c = omega (arith, c.loop-at.invariant.room)
 
-abbrev at-match2-keys1 : tie.After-no-code3 invariant-loop decreases-loop → tie.At-match2-keys1 invariant-loop decreases-loop
-at-match2-keys1 c = c.before.before.before.before
+add-m : tie.Need-overflow_add-m invariant-loop decreases-loop
+add-m c = omega (arith, few c.before.before.before.before.before.before.before.before.before.before.before.before)
 
-add-m : tie.Need-overflow-add-m invariant-loop decreases-loop
-add-m c = omega (arith, few (at-loop (at-match2-keys1 c).before.before))
+add-line : tie.Need-overflow_add-line invariant-loop decreases-loop
+add-line c = omega (arith, few c.before.before.before.before.before.before.before.before.before.before.before.before)
 
-add-line : tie.Need-overflow-add-line invariant-loop decreases-loop
-add-line c = omega (arith, few (at-loop (at-match2-keys1 c).before.before))
+loop-less : tie.Need-loop-at-smaller-in-0 invariant-loop decreases-loop
+loop-less c = omega (arith, (is-program c.before.before.before.before).end)
 
-loop-less : tie.Need-loop-smaller invariant-loop decreases-loop
-loop-less c = omega (arith, (is-program (at-match2-keys1 c)).end)
-
-loop-again : tie.Need-loop-preserved invariant-loop decreases-loop
+loop-again : tie.Need-loop-at-preserved-in-0 invariant-loop decreases-loop
 loop-again c =
-    let q = at-match2-keys1 c in
-    program-on (at-loop q.before.before).loop.inv (search rules) (is-program q) (search rules) (search rules) _ _ _
-    c.before.number-from.ensures refl c.no-code3.ensures
+    program-on c.loop-at.invariant (search rules) (is-program c.before.before.before.before) (search rules) (search rules) _ _ _
+    c.number_from-number.ensures refl c.no_code-code-in-0.ensures
 
 -- ── a `do` line ──
 
-is-do : (q : tie.At-match2-rest invariant-loop decreases-loop) → Of-kind q.before.before 1
+is-do : (q : tie.In_default-k invariant-loop decreases-loop) → Of-kind q.before.before 1
 is-do q =
-    let p = q.before.before in
-    is_last program_kinds programs-apart _ _ _ _ (at-program-line p).program-line.ensures _ _ 1 (at-k p).k.given.1 refl
-    (omega (arith, q.match2.rest.1))
+    is_last program_kinds programs-apart _ _ _ _ q.program_line.ensures _ _ 1 q.k-1.given.1 refl
+    (omega (arith, q.in_default-k.rest.1))
 
-returns-5 : tie.Need-returns-5 invariant-loop decreases-loop
+returns-5 : tie.Need-returns-then-m-eq0 invariant-loop decreases-loop
 returns-5 c =
-    let q = c.before.before in
-    do-early (at-loop q.before.before).loop.inv (search rules) (is-do q) (search rules) _ c.unreadable5.ensures
+    do-early c.loop-at.invariant (search rules) (is-do c.before.before) (search rules) _ c.unreadable-then-m-eq0.ensures
 
-returns-6 : tie.Need-returns-6 invariant-loop decreases-loop
+returns-6 : tie.Need-returns-then-n-ge-INSTRUCTIONS invariant-loop decreases-loop
 returns-6 c =
-    let at-if4 = c.before.before in
-    let q = at-if4.before in
-    do-long (at-loop q.before.before).loop.inv (search rules) (is-do q) at-if4.if4.false (search rules) _ c.unreadable6.ensures
+    do-long c.loop-at.invariant (search rules) (is-do c.before.before.before) c.if-m-eq0.false (search rules) _ c.unreadable-then-n-ge-INSTRUCTIONS.ensures
 
-abbrev at-if4 : tie.After-instr-from invariant-loop decreases-loop → tie.Else4 invariant-loop decreases-loop
-at-if4 c = c.before.before.before
+array-set-from-code : tie.Need-bounds-code-n invariant-loop decreases-loop
+array-set-from-code c = omega (arith, c.loop-at.invariant.size)
 
-array-set-from-code : tie.Need-array-set-from-code invariant-loop decreases-loop
-array-set-from-code c = omega (arith, (at-loop (at-if4 c).before.before.before).loop.inv.size)
+add-n : tie.Need-overflow_add-n invariant-loop decreases-loop
+add-n c = omega (arith, few c.before.before.before.before.before.before.before.before.before.before.before.before)
 
-add-n : tie.Need-overflow-add-n invariant-loop decreases-loop
-add-n c = omega (arith, few (at-loop (at-if4 c).before.before.before))
+add-line-2 : tie.Need-overflow_add-line-in_default-k invariant-loop decreases-loop
+add-line-2 c = omega (arith, few c.before.before.before.before.before.before.before.before.before.before.before.before)
 
-add-line-2 : tie.Need-overflow-add-line-2 invariant-loop decreases-loop
-add-line-2 c = omega (arith, few (at-loop (at-if4 c).before.before.before))
+loop-less-2 : tie.Need-loop-at-smaller invariant-loop decreases-loop
+loop-less-2 c = omega (arith, (is-do c.before.before.before.before).end)
 
-loop-less-2 : tie.Need-loop-smaller-2 invariant-loop decreases-loop
-loop-less-2 c = omega (arith, (is-do (at-if4 c).before).end)
-
-loop-again-2 : tie.Need-loop-preserved-2 invariant-loop decreases-loop
+loop-again-2 : tie.Need-loop-at-preserved invariant-loop decreases-loop
 loop-again-2 c =
-    let q = (at-if4 c).before in
-    do-on (at-loop q.before.before).loop.inv (search rules) (is-do q) (at-if4 c).if4.false (search rules) (search rules) _
-    c.instr-from.ensures
+    do-on c.loop-at.invariant (search rules) (is-do c.before.before.before.before) c.if-m-eq0.false (search rules) (search rules) _
+    c.instr_from.ensures
 
 -- ── the end ──
 
-add-table-2 : tie.Need-overflow-add-table-2 invariant-loop decreases-loop
+add-table-2 : tie.Need-overflow_add-table-2 invariant-loop decreases-loop
 add-table-2 c = omega (arith, few c.before)
 
-array-set-from-table-2 : tie.Need-array-set-from-table-2 invariant-loop decreases-loop
-array-set-from-table-2 c = omega (arith, c.before.loop.invariant.room)
+array-set-from-table-2 : tie.Need-bounds-table-m-2 invariant-loop decreases-loop
+array-set-from-table-2 c = omega (arith, c.loop-at.invariant.room)
 
-returns-7 : tie.Need-returns-7 invariant-loop decreases-loop
-returns-7 c = held-done c.before.loop.invariant (search rules) _ refl
+returns-7 : tie.Need-returns invariant-loop decreases-loop
+returns-7 c = held-done c.loop-at.invariant (search rules) _ refl
 
-pub read-programs-spec : {M : Type 1} → statement M
-read-programs-spec =
+pub read_programs_spec : {M : Type 1} → statement M
+read_programs_spec =
     tie.close
     (tie.spec
     invariant-loop

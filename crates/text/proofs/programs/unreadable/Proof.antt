@@ -7,5 +7,7 @@ use Rattle.text.proofs.programs.unreadable.Tie as tie
 returns : tie.Need-returns
 returns c = rw c.no_code.ensures refl
 
-pub unreadable-spec : {M : Type 1} → statement M
-unreadable-spec = tie.close (tie.spec (λ c κs. search rules) returns)
+pub unreadable_spec : {M : Type 1} → statement M
+unreadable_spec = tie.close (tie.spec
+    (λ c κs. search rules)
+    returns)

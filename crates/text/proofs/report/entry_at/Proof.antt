@@ -7,8 +7,8 @@ use Rattle.text.proofs.report.entry_at.Tie as tie
 returns : tie.Need-returns
 returns c = entry_read _ _
 
-pub entry-at-spec : {M : Type 1} → statement M
-entry-at-spec =
+pub entry_at_spec : {M : Type 1} → statement M
+entry_at_spec =
     tie.close
     (tie.spec
     (λ c. search rules)

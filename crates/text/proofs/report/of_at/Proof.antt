@@ -7,8 +7,8 @@ use Rattle.text.proofs.report.of_at.Tie as tie
 returns : tie.Need-returns
 returns c = of-read _ _
 
-pub of-at-spec : {M : Type 1} → statement M
-of-at-spec =
+pub of_at_spec : {M : Type 1} → statement M
+of_at_spec =
     tie.close
     (tie.spec
     (λ c. search rules)

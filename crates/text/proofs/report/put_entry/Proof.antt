@@ -11,8 +11,8 @@ returns : tie.Need-returns
 unfolding with_entry with_row
 returns c = sets-six c.args.logs.now (c.args.i % 1024 * 6) _ _ _ _ _ _
 
-pub put-entry-spec : {M : Type 1} → statement M
-put-entry-spec =
+pub put_entry_spec : {M : Type 1} → statement M
+put_entry_spec =
     tie.close
     (tie.spec
     (λ c. search rules)

@@ -11,8 +11,8 @@ returns : tie.Need-returns
 unfolding with_of with_row
 returns c = sets-three c.args.ofs.now (c.args.i % 64 * 3) _ _ _
 
-pub put-of-spec : {M : Type 1} → statement M
-put-of-spec =
+pub put_of_spec : {M : Type 1} → statement M
+put_of_spec =
     tie.close
     (tie.spec
     (λ c. search rules)

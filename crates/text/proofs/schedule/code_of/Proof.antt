@@ -5,13 +5,20 @@ use borrow.Author.Rules.{rules}
 use Rattle.text.proofs.schedule.code_of.Statement.{statement}
 use Rattle.text.proofs.schedule.code_of.Tie as tie
 
-returns : tie.Need-returns
-returns c = let a = c.before.before.args in ap (move_code a.m) (sym c.enum_told.given.1)
+returns : tie.Need-returns-in-Arrive
+returns c = let a = c.args in ap (move_code a.m) (sym c.enum_told-1.given.1)
 
-returns-2 : tie.Need-returns-2
-returns-2 c = let a = c.before.before.before.args in ap (move_code a.m) (sym c.before.x.given.1)
+returns-2 : tie.Need-returns-in-Turn
+returns-2 c = let a = c.args in ap (move_code a.m) (sym c.x-1.given.1)
 
-pub code-of-spec : {M : Type 1} → statement M
-code-of-spec =
+pub code_of_spec : {M : Type 1} → statement M
+code_of_spec =
     tie.close
-    (tie.spec (λ c. search rules) (λ c. search rules) (λ c. search rules) (λ c. search rules) (λ c. search rules) returns returns-2)
+    (tie.spec
+    (λ c. search rules)
+    (λ c. search rules)
+    (λ c. search rules)
+    (λ c. search rules)
+    (λ c. search rules)
+    returns
+    returns-2)

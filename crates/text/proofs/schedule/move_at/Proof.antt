@@ -4,19 +4,18 @@ use borrow.Author.Rules.{rules}
 use Rattle.text.proofs.schedule.move_at.Statement.{statement}
 use Rattle.text.proofs.schedule.move_at.Tie as tie
 
-returns : tie.Need-returns
+returns : tie.Need-returns-then-i-ge-MOVES
 returns c = move-out _ _ _ (search rules) (search rules)
 
-returns-2 : tie.Need-returns-2
-returns-2 c = move-turn _ _ _ _ c.before.number_of_lem.ensures (search rules)
+returns-2 : tie.Need-returns-then-code-lt-RIDS
+returns-2 c = move-turn _ _ _ _ c.number_of_lem.ensures (search rules)
 
-returns-3 : tie.Need-returns-3
+returns-3 : tie.Need-returns
 returns-3 c =
-    let at-number-of = c.before.before.before.before.before in
-    move-arrive _ _ _ _ at-number-of.number_of_lem.ensures (search rules)
+    move-arrive _ _ _ _ c.number_of_lem.ensures (search rules)
 
-pub move-at-spec : {M : Type 1} → statement M
-move-at-spec =
+pub move_at_spec : {M : Type 1} → statement M
+move_at_spec =
     tie.close
     (tie.spec
     returns

@@ -8,19 +8,19 @@ use borrow.Author.Rules.{rules}
 use Rattle.text.proofs.schedule.put_arrival.Statement.{statement}
 use Rattle.text.proofs.schedule.put_arrival.Tie as tie
 
-returns : tie.Need-returns
+returns : tie.Need-returns-in_default
 unfolding with_arrival
 returns c =
-    let a = c.before.before.args in ap (with_arrival a.arrivals.now a.m) (sym c.enum_told.given.1)
+    let a = c.args in ap (with_arrival a.arrivals.now a.m) (sym c.enum_told-1.given.1)
 
-returns-2 : tie.Need-returns-2
+returns-2 : tie.Need-returns
 unfolding with_arrival with_row
 returns-2 c =
-    let a = c.before.before.before.args in
-    sets-four a.arrivals.now (a.m % 64 * 4) _ _ _ _ ∙ ap (with_arrival a.arrivals.now a.m) (sym c.before.x.given.1)
+    let a = c.args in
+    sets-four a.arrivals.now (a.m % 64 * 4) _ _ _ _ ∙ ap (with_arrival a.arrivals.now a.m) (sym c.x-1.given.1)
 
-pub put-arrival-spec : {M : Type 1} → statement M
-put-arrival-spec =
+pub put_arrival_spec : {M : Type 1} → statement M
+put_arrival_spec =
     tie.close
     (tie.spec
     (λ c. search rules)

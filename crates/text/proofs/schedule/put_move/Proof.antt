@@ -7,19 +7,18 @@ use borrow.Author.Rules.{rules}
 use Rattle.text.proofs.schedule.put_move.Statement.{statement}
 use Rattle.text.proofs.schedule.put_move.Tie as tie
 
-returns : tie.Need-returns
+returns : tie.Need-returns-then-i-lt-MOVES
 unfolding with_move
 returns c =
-    let at-put-arrival = c.before.before in
-    let a = at-put-arrival.before.before.args in
-    (ap (set a.moves.now a.i) c.code_of_lem.ensures, at-put-arrival.put-arrival.ensures)
+    let a = c.args in
+    (ap (set a.moves.now a.i) c.code_of_lem.ensures, c.put_arrival.ensures)
 
-returns-2 : tie.Need-returns-2
+returns-2 : tie.Need-returns-else-i-lt-MOVES
 unfolding with_move
-returns-2 c = (sym (set_out _ _ _ (search rules)), c.before.put-arrival.ensures)
+returns-2 c = (sym (set_out _ _ _ (search rules)), c.put_arrival.ensures)
 
-pub put-move-spec : {M : Type 1} → statement M
-put-move-spec =
+pub put_move_spec : {M : Type 1} → statement M
+put_move_spec =
     tie.close
     (tie.spec
     (λ c κs. search rules)

@@ -8,33 +8,30 @@ use borrow.Author.Rules.{rules}
 use Rattle.text.proofs.schedule.schedule_line.Statement.{statement}
 use Rattle.text.proofs.schedule.schedule_line.Tie as tie
 
-returns : tie.Need-returns
+returns : tie.Need-returns-in-At
 returns c =
     told-known schedule_kinds schedule-apart _ _ 1 (omega arith) _ _ _
-    c.before.e.given.1 c.before.before.before.line_at_lem.ensures
+    c.e-1.given.1 c.line_at_lem.ensures
 
-returns-2 : tie.Need-returns-2
+returns-2 : tie.Need-returns-in-At-line_at
 returns-2 c =
     told-known schedule_kinds schedule-apart _ _ 0 (omega arith) _ _ _
-    c.before.e2.given.1 c.before.before.before.line-at2.ensures
+    c.e-in-At-line_at-2-1.given.1 c.line_at-2.ensures
 
-returns-3 : tie.Need-returns-3
+returns-3 : tie.Need-returns
 returns-3 c =
-    let at-enum-told = c.before.before.before.before.before.before in
     told-unknown schedule_kinds _ _ _ (
-      missed arrive_line _ _ _ _ _ c.enum-told2.given.1 c.before.before.line-at2.ensures,
-      (missed turn_line _ _ _ _ _ at-enum-told.enum_told.given.1 at-enum-told.before.before.line_at_lem.ensures, tt),
+      missed arrive_line _ _ _ _ _ c.enum_told-in_default-line_at-1.given.1 c.line_at-2.ensures,
+      (missed turn_line _ _ _ _ _ c.enum_told-1.given.1 c.line_at_lem.ensures, tt),
     )
 
-pub schedule-line-spec : {M : Type 1} → statement M
-schedule-line-spec =
+pub schedule_line_spec : {M : Type 1} → statement M
+schedule_line_spec =
     tie.close
     (tie.spec
-    (λ c. search rules)
     (λ c κs. search rules)
     (λ c. search rules)
     returns
-    (λ c. search rules)
     (λ c. search rules)
     (λ c κs. search rules)
     (λ c. search rules)

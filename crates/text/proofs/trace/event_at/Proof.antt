@@ -4,16 +4,15 @@ use borrow.Author.Rules.{rules}
 use Rattle.text.proofs.trace.event_at.Statement.{statement}
 use Rattle.text.proofs.trace.event_at.Tie as tie
 
-returns : tie.Need-returns
+returns : tie.Need-returns-then-events-k-eq0
 returns c =
-    let at-if1 = c.before.before.before.before in
-    event-request _ _ at-if1.if1.true
+    event-request _ _ c.if-events-k-eq0.true
 
-returns-2 : tie.Need-returns-2
-returns-2 c = event-response _ _ c.before.before.before.if1.false
+returns-2 : tie.Need-returns
+returns-2 c = event-response _ _ c.if-events-k-eq0.false
 
-pub event-at-spec : {M : Type 1} → statement M
-event-at-spec =
+pub event_at_spec : {M : Type 1} → statement M
+event_at_spec =
     tie.close
     (tie.spec
     (λ c. search rules)

@@ -8,20 +8,20 @@ use borrow.Author.Rules.{rules}
 use Rattle.text.proofs.trace.put_event.Statement.{statement}
 use Rattle.text.proofs.trace.put_event.Tie as tie
 
-returns : tie.Need-returns
+returns : tie.Need-returns-in-Request
 unfolding with_event with_row
 returns c =
-    let a = c.before.before.before.args in
-    sets-five a.events.now (a.i % 128 * 5) 0 _ _ _ _ ∙ ap (with_event a.events.now a.i) (sym c.before.x.given.1)
+    let a = c.args in
+    sets-five a.events.now (a.i % 128 * 5) 0 _ _ _ _ ∙ ap (with_event a.events.now a.i) (sym c.x-1.given.1)
 
-returns-2 : tie.Need-returns-2
+returns-2 : tie.Need-returns-in-Response
 unfolding with_event with_row
 returns-2 c =
-    let a = c.before.before.before.args in
-    sets-five a.events.now (a.i % 128 * 5) 1 _ _ _ 0 ∙ ap (with_event a.events.now a.i) (sym c.before.x2.given.1)
+    let a = c.args in
+    sets-five a.events.now (a.i % 128 * 5) 1 _ _ _ 0 ∙ ap (with_event a.events.now a.i) (sym c.x-in-Response-1.given.1)
 
-pub put-event-spec : {M : Type 1} → statement M
-put-event-spec =
+pub put_event_spec : {M : Type 1} → statement M
+put_event_spec =
     tie.close
     (tie.spec
     (λ c. search rules)

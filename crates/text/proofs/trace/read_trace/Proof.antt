@@ -23,131 +23,108 @@ use borrow.Author.Rules.{rules}
 use Rattle.text.proofs.trace.read_trace.Statement.{statement}
 use Rattle.text.proofs.trace.read_trace.Tie as tie
 
-abbrev invariant-loop : tie.invariant-loop
+abbrev invariant-loop : tie.invariant-loop-at
 invariant-loop s events₀ v₀ m₀ n₀ at₀ events v m n at = Held s events m n at
 
-abbrev decreases-loop : tie.decreases-loop
+abbrev decreases-loop : tie.decreases-loop-at
 decreases-loop s events₀ v₀ m₀ n₀ at₀ events v m n at = length s - at
 
-returns : tie.Need-returns invariant-loop decreases-loop
+returns : tie.Need-returns-then-s-gt-TEXT_BYTES invariant-loop decreases-loop
 returns c = held-long _ _ (search rules) (search rules)
 
-loop-holds : tie.Need-loop-init invariant-loop decreases-loop
+loop-holds : tie.Need-loop-at-init invariant-loop decreases-loop
 loop-holds c = held_start _ _ (search rules) (search rules)
 
 -- the counts are small
-few : (l : tie.At-loop invariant-loop decreases-loop) → l.loop.m + l.loop.n ≤ 128
-few l = let r = l.loop.invariant in omega (arith, r.few_requests, r.few_responses)
+few : (l : tie.At-loop-at invariant-loop decreases-loop) → l.loop-at.m + l.loop-at.n ≤ 128
+few l = let r = l.loop-at.invariant in omega (arith, r.few_requests, r.few_responses)
 
-add-line : tie.Need-overflow-add-line invariant-loop decreases-loop
+add-line : tie.Need-overflow_add-line invariant-loop decreases-loop
 add-line c = omega (arith, few c.before)
 
-add-line-2 : tie.Need-overflow-add-line-2 invariant-loop decreases-loop
+add-line-2 : tie.Need-overflow_add-line-in-loop-at invariant-loop decreases-loop
 add-line-2 c = omega (arith, few c.before)
 
-returns-2 : tie.Need-returns-2 invariant-loop decreases-loop
+returns-2 : tie.Need-returns-in_default invariant-loop decreases-loop
 returns-2 c =
-    let at-trace-line = c.before.before in
-    let r = at-trace-line.before.before.before.loop.invariant in
-    held-refused r (line-unknown r.reading trace-apart (search rules) _ _ at-trace-line.trace-line.ensures c.enum_told.given.1)
+    let r = c.loop-at.invariant in
+    held-refused r (line-unknown r.reading trace-apart (search rules) _ _ c.trace_line.ensures c.enum_told-1.given.1)
 
 -- the way back from a line of one of the kinds
-module _ (p : tie.After-known-told invariant-loop decreases-loop) where
-  abbrev at-k : tie.After-k invariant-loop decreases-loop
-  at-k = p.before
-
-  abbrev at-trace-line : tie.After-trace-line invariant-loop decreases-loop
-  at-trace-line = at-k.before.before
-
-  abbrev at-loop : tie.At-loop invariant-loop decreases-loop
-  at-loop = at-trace-line.before.before.before
+module _ (p : tie.In-Known invariant-loop decreases-loop) where
 
   -- the line is of kind j
   abbrev Of-kind : ℕ → Type 0
   Of-kind j =
-      let start = at-loop.before.before.before in
-      Fits trace_kinds start.args.s.now at-loop.loop.at j at-k.k.given.0.1.0
-      (numbers_in trace_kinds j at-trace-line.trace-line.last.1.1.0)
+      Fits trace_kinds p.args.s.now p.loop-at.at j p.k-1.given.0.1.0
+      (numbers_in trace_kinds j p.trace_line.new.v)
 
-returns-3 : tie.Need-returns-3 invariant-loop decreases-loop
+returns-3 : tie.Need-returns-then-s-e invariant-loop decreases-loop
 returns-3 c =
-    let p = c.before in
-    let r = (at-loop p).loop.invariant in
+    let r = c.loop-at.invariant in
     held-refused r
-    (line-cut r.reading trace-apart (search rules) _ _ (at-trace-line p).trace-line.ensures _ _ (at-k p).k.given.1 (search rules))
+    (line-cut r.reading trace-apart (search rules) _ _ c.trace_line.ensures _ _ c.k-1.given.1 (search rules))
 
 -- ── a request ──
 
-is-request : (q : tie.At-match2-keys1 invariant-loop decreases-loop) → Of-kind q.before.before 0
+is-request : (q : tie.In-0 invariant-loop decreases-loop) → Of-kind q.before.before 0
 is-request q =
-    let p = q.before.before in
-    is_known trace_kinds trace-apart _ _ _ _ (at-trace-line p).trace-line.ensures _ _ 0 (at-k p).k.given.1
-    q.match2.keys1
+    is_known trace_kinds trace-apart _ _ _ _ q.trace_line.ensures _ _ 0 q.k-1.given.1
+    q.in-0.keys1
 
-returns-4 : tie.Need-returns-4 invariant-loop decreases-loop
-returns-4 c = request-full (at-loop c.before.before.before).loop.inv (search rules) (is-request c.before) (search rules)
+returns-4 : tie.Need-returns-then-m-ge-REQUESTS invariant-loop decreases-loop
+returns-4 c = request-full c.loop-at.invariant (search rules) (is-request c.before) (search rules)
 
-add-put-event : tie.Need-overflow-add-put-event invariant-loop decreases-loop
+add-put-event : tie.Need-overflow_add-m invariant-loop decreases-loop
 add-put-event c =
-    let q = c.before.before in
-    omega (arith, few (at-loop q.before.before))
+    omega (arith, few c.before.before.before.before.before.before.before.before.before.before)
 
-abbrev at-match2-keys1 : tie.After-put-event invariant-loop decreases-loop → tie.At-match2-keys1 invariant-loop decreases-loop
-at-match2-keys1 c = c.before.before.before.before.before
+add-m : tie.Need-overflow_add-m invariant-loop decreases-loop
+add-m c = omega (arith, few c.before.before.before.before.before.before.before.before.before.before)
 
-add-m : tie.Need-overflow-add-m invariant-loop decreases-loop
-add-m c = omega (arith, few (at-loop (at-match2-keys1 c).before.before))
+loop-less : tie.Need-loop-at-smaller-in-0 invariant-loop decreases-loop
+loop-less c = omega (arith, (is-request c.before.before.before.before.before).end)
 
-loop-less : tie.Need-loop-smaller invariant-loop decreases-loop
-loop-less c = omega (arith, (is-request (at-match2-keys1 c)).end)
-
-loop-again : tie.Need-loop-preserved invariant-loop decreases-loop
+loop-again : tie.Need-loop-at-preserved-in-0 invariant-loop decreases-loop
 loop-again c =
-    let q = at-match2-keys1 c in
-    request-on (at-loop q.before.before).loop.inv (search rules) (is-request q) (search rules) (search rules) _
-    c.before.request-from.ensures _ c.put-event.ensures
+    request-on c.loop-at.invariant (search rules) (is-request c.before.before.before.before.before) (search rules) (search rules) _
+    c.request_from.ensures _ c.put_event.ensures
 
 -- ── a response ──
 
-is-response : (q : tie.At-match2-rest invariant-loop decreases-loop) → Of-kind q.before.before 1
+is-response : (q : tie.In_default-k invariant-loop decreases-loop) → Of-kind q.before.before 1
 is-response q =
-    let p = q.before.before in
-    is_last trace_kinds trace-apart _ _ _ _ (at-trace-line p).trace-line.ensures _ _ 1 (at-k p).k.given.1 refl
-    (omega (arith, q.match2.rest.1))
+    is_last trace_kinds trace-apart _ _ _ _ q.trace_line.ensures _ _ 1 q.k-1.given.1 refl
+    (omega (arith, q.in_default-k.rest.1))
 
-returns-5 : tie.Need-returns-5 invariant-loop decreases-loop
-returns-5 c = response-full (at-loop c.before.before.before).loop.inv (search rules) (is-response c.before) (search rules)
+returns-5 : tie.Need-returns-then-n-ge-RESPONSES invariant-loop decreases-loop
+returns-5 c = response-full c.loop-at.invariant (search rules) (is-response c.before) (search rules)
 
-add-put-event-2 : tie.Need-overflow-add-put-event-2 invariant-loop decreases-loop
+add-put-event-2 : tie.Need-overflow_add-m-in_default-k invariant-loop decreases-loop
 add-put-event-2 c =
-    let q = c.before.before in
-    omega (arith, few (at-loop q.before.before))
+    omega (arith, few c.before.before.before.before.before.before.before.before.before.before)
 
-abbrev at-match2-rest : tie.After-put-event2 invariant-loop decreases-loop → tie.At-match2-rest invariant-loop decreases-loop
-at-match2-rest c = c.before.before.before.before.before
+add-n : tie.Need-overflow_add-n invariant-loop decreases-loop
+add-n c = omega (arith, few c.before.before.before.before.before.before.before.before.before.before.before.before.before)
 
-add-n : tie.Need-overflow-add-n invariant-loop decreases-loop
-add-n c = omega (arith, few (at-loop (at-match2-rest c).before.before))
+loop-less-2 : tie.Need-loop-at-smaller invariant-loop decreases-loop
+loop-less-2 c = omega (arith, (is-response c.before.before.before.before.before).end)
 
-loop-less-2 : tie.Need-loop-smaller-2 invariant-loop decreases-loop
-loop-less-2 c = omega (arith, (is-response (at-match2-rest c)).end)
-
-loop-again-2 : tie.Need-loop-preserved-2 invariant-loop decreases-loop
+loop-again-2 : tie.Need-loop-at-preserved invariant-loop decreases-loop
 loop-again-2 c =
-    let q = at-match2-rest c in
-    response-on (at-loop q.before.before).loop.inv (search rules) (is-response q) (search rules) (search rules) _
-    c.before.response-from.ensures _ c.put-event2.ensures
+    response-on c.loop-at.invariant (search rules) (is-response c.before.before.before.before.before) (search rules) (search rules) _
+    c.response_from.ensures _ c.put_event-in_default-k.ensures
 
 -- ── the end ──
 
-add-t10 : tie.Need-overflow-add-t10 invariant-loop decreases-loop
+add-t10 : tie.Need-overflow_add-result invariant-loop decreases-loop
 add-t10 c = omega (arith, few c.before)
 
-returns-6 : tie.Need-returns-6 invariant-loop decreases-loop
-returns-6 c = held-done c.before.loop.invariant (search rules)
+returns-6 : tie.Need-returns invariant-loop decreases-loop
+returns-6 c = held-done c.loop-at.invariant (search rules)
 
-pub read-trace-spec : {M : Type 1} → statement M
-read-trace-spec =
+pub read_trace_spec : {M : Type 1} → statement M
+read_trace_spec =
     tie.close
     (tie.spec
     invariant-loop
@@ -162,10 +139,10 @@ read-trace-spec =
     returns-2
     returns-3
     returns-4
-    add-put-event
-    (λ c κs. search rules)
-    (λ c κs. search rules)
     add-m
+    (λ c κs. search rules)
+    (λ c κs. search rules)
+    (λ c. search rules)
     (λ c. search rules)
     loop-less
     loop-again

@@ -5,7 +5,10 @@ use Rattle.verifier.proofs.audits.audit.Statement.{statement}
 use Rattle.verifier.proofs.audits.audit.Tie as tie
 
 returns : tie.Need-returns
-returns c = promised _ _ _ _ c.before.before.audit-order.ensures.0
+returns c = promised _ _ _ _ c.audit_order-r.ensures.0
 
-pub audit-spec : {M : Type 1} → statement M
-audit-spec = tie.close (tie.spec (λ c. search rules) (λ c κs. search rules) returns)
+pub audit_spec : {M : Type 1} → statement M
+audit_spec = tie.close (tie.spec
+    (λ c. search rules)
+    (λ c κs. search rules)
+    returns)

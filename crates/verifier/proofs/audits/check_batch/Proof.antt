@@ -6,45 +6,36 @@ use borrow.Author.Rules.{rules}
 use Rattle.verifier.proofs.audits.check_batch.Statement.{statement}
 use Rattle.verifier.proofs.audits.check_batch.Tie as tie
 
-returns : tie.Need-returns
+returns : tie.Need-returns-in-Broken
 returns c =
-    let at-row-4 = c.before.before.before in
-    let a = at-row-4.before.before.args in (
+    let a = c.args in (
       λ e. omega arith,
       refused-4 a.programs a.events.now a.t a.report.now _
-          (broken _ _ _ at-row-4.row-4.ensures c.before.line.given.1),
+          (broken _ _ _ c.row_4.ensures c.line-1.given.1),
     )
 
-returns-2 : tie.Need-returns-2
+returns-2 : tie.Need-returns-in-BadLine
 returns-2 c =
-    let at-read-report = c.before.before.before in
-    let at-enum-told = at-read-report.before.before.before in
-    let at-row-4 = at-enum-told.before.before in
-    let a = at-row-4.before.before.args in (
+    let a = c.args in (
       λ e. omega arith,
       refused-5 a.programs a.events.now a.t a.report.now
-          (kept _ _ at-row-4.row-4.ensures at-enum-told.enum_told.given.1) _ _ _ at-read-report.read-report.ensures _
-          c.before.line2.given.1,
+          (kept _ _ c.row_4.ensures c.enum_told-1.given.1) _ _ _ c.read_report.ensures _
+          c.line-in-BadLine-1.given.1,
     )
 
-check-report-requires : tie.Need-check-report-requires
+check-report-requires : tie.Need-check_report-requires
 check-report-requires c κs =
-    let at-m = c.before.before.before in
-    report-few _ _ _ _ at-m.before.before.read-report.ensures _ _ at-m.m.given.1
+    report-few _ _ _ _ c.read_report.ensures _ _ c.m-1.given.1
 
-returns-3 : tie.Need-returns-3
+returns-3 : tie.Need-returns-in-Counts
 returns-3 c =
-    let at-m = c.before.before.before.before in
-    let at-read-report = at-m.before.before in
-    let at-enum-told = at-read-report.before.before.before in
-    let at-row-4 = at-enum-told.before.before in
-    let a = at-row-4.before.before.args in
+    let a = c.args in
     past-report a.programs a.events.now a.t a.report.now
-    (kept _ _ at-row-4.row-4.ensures at-enum-told.enum_told.given.1) _ _ _ at-read-report.read-report.ensures _ _
-    at-m.m.given.1 c.check-report.result c.check-report.ensures
+    (kept _ _ c.row_4.ensures c.enum_told-1.given.1) _ _ _ c.read_report.ensures _ _
+    c.m-1.given.1 c.check_report.result c.check_report.ensures
 
-pub check-batch-spec : {M : Type 1} → statement M
-check-batch-spec =
+pub check_batch_spec : {M : Type 1} → statement M
+check_batch_spec =
     tie.close
     (tie.spec
     (λ c κs. search rules)

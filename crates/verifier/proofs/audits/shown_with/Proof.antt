@@ -3,11 +3,13 @@ use borrow.Author.Tests.{eq-eqb, ne_eqb}
 use Rattle.verifier.proofs.audits.shown_with.Statement.{statement}
 use Rattle.verifier.proofs.audits.shown_with.Tie as tie
 
-returns : tie.Need-returns
-returns c = rw (eq-eqb _ _ c.if1.true)
+returns : tie.Need-returns-then-verdict-eq0
+returns c = rw (eq-eqb _ _ c.if-verdict-eq0.true)
 
-returns-2 : tie.Need-returns-2
-returns-2 c = rw (ne_eqb _ _ c.if1.false)
+returns-2 : tie.Need-returns-else-verdict-eq0
+returns-2 c = rw (ne_eqb _ _ c.if-verdict-eq0.false)
 
-pub shown-with-spec : {M : Type 1} → statement M
-shown-with-spec = tie.close (tie.spec returns returns-2)
+pub shown_with_spec : {M : Type 1} → statement M
+shown_with_spec = tie.close (tie.spec
+    returns
+    returns-2)

@@ -5,25 +5,22 @@ use borrow.Author.Rules.{rules}
 use Rattle.verifier.proofs.orders.put_numbers.Statement.{statement}
 use Rattle.verifier.proofs.orders.put_numbers.Tie as tie
 
-returns : tie.Need-returns
-returns c = λ items is. put-none _ _ items is c.if1.true
+returns : tie.Need-returns-then-items-eq0
+returns c = λ items is. put-none _ _ items is c.if-items-eq0.true
 
-returns-2 : tie.Need-returns-2
+returns-2 : tie.Need-returns-then-out-items
 returns-2 c = λ items is. put-no-room _ _ items is (search rules)
 
-fill-items-requires : tie.Need-fill-items-requires
+fill-items-requires : tie.Need-fill_items-requires
 fill-items-requires c κs =
-    let start = c.before.before.before.before.before.before.before in
-    (omega (arith, start.requires.0, start.requires.1), search rules)
+    (omega (arith, c.requires.0, c.requires.1), search rules)
 
-returns-3 : tie.Need-returns-3
+returns-3 : tie.Need-returns
 returns-3 c =
-    let at-fill-items = c.before.before in
-    let at-order-items = at-fill-items.before.before.before in
-    λ items is. put-placed _ _ items is (search rules) _ at-order-items.order-items.ensures _ (at-fill-items.fill-items.ensures _)
+    λ items is. put-placed _ _ items is (search rules) _ c.order_items.ensures _ (c.fill_items.ensures _)
 
-pub put-numbers-spec : {M : Type 1} → statement M
-put-numbers-spec =
+pub put_numbers_spec : {M : Type 1} → statement M
+put_numbers_spec =
     tie.close
     (tie.spec
     (λ c. search rules)

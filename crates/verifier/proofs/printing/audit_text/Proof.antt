@@ -8,15 +8,14 @@ use Rattle.verifier.proofs.printing.audit_text.Tie as tie
 
 returns : tie.Need-returns
 returns c =
-    let at-written = c.before.before.before.before in
-    let r = at-written.before.before.before.audit-order.ensures in (
-      text-put _ _ _ _ r.0 (replicate 2304 0) _ _ _ (length-replicate {A = ℕ} 2304 0) r.1.0 at-written.written.ensures _ _ _
-          c.before.before.put-printed.ensures.0,
-      text-most _ _ _ _ r.0 c.before.before.put-printed.ensures.1,
+    let r = c.audit_order-r.ensures in (
+      text-put _ _ _ _ r.0 (replicate 2304 0) _ _ _ (length-replicate {A = ℕ} 2304 0) r.1.0 c.written.ensures _ _ _
+          c.put_printed.ensures.0,
+      text-most _ _ _ _ r.0 c.put_printed.ensures.1,
     )
 
-pub audit-text-spec : {M : Type 1} → statement M
-audit-text-spec =
+pub audit_text_spec : {M : Type 1} → statement M
+audit_text_spec =
     tie.close
     (tie.spec
     (λ c. search rules)

@@ -8,22 +8,21 @@ use borrow.Author.Rules.{rules}
 use Rattle.writing.proofs.orders.item_width.Statement.{statement}
 use Rattle.writing.proofs.orders.item_width.Tie as tie
 
-returns : tie.Need-returns
+returns : tie.Need-returns-then-x-eq0
 returns c =
-    let w = c.number-width in
-    (omega (arith, w.ensures.0, event-length c.before.before.before.args.x c.before.if1.true), omega (arith, w.ensures.1))
+    let w = c.number_width in
+    (omega (arith, w.ensures.0, event-length c.args.x c.if-x-eq0.true), omega (arith, w.ensures.1))
 
-returns-2 : tie.Need-returns-2
+returns-2 : tie.Need-returns
 returns-2 c =
-    let start = c.before.before.before.before in
-    let w = c.numbers-width in
-    let f = ap (λ f. length (numbers_text (take f.n f.v))) c.before.item-fields.ensures in (
-      omega (arith, w.ensures.0, f, operation-length start.args.x c.before.before.if1.false),
+    let w = c.numbers_width in
+    let f = ap (λ f. length (numbers_text (take f.n f.v))) c.item_fields.ensures in (
+      omega (arith, w.ensures.0, f, operation-length c.args.x c.if-x-eq0.false),
       omega (arith, w.ensures.1),
     )
 
-pub item-width-spec : {M : Type 1} → statement M
-item-width-spec =
+pub item_width_spec : {M : Type 1} → statement M
+item_width_spec =
     tie.close
     (tie.spec
     (λ c κs. search rules)

@@ -7,7 +7,10 @@ use Rattle.writing.proofs.orders.order_width.Statement.{statement}
 use Rattle.writing.proofs.orders.order_width.Tie as tie
 
 returns : tie.Need-returns
-returns c = (c.widths.ensures.0 ∙ ap length (items-texts _ _ _ c.before.least.ensures), c.widths.ensures.1)
+returns c = (c.widths.ensures.0 ∙ ap length (items-texts _ _ _ c.least.ensures), c.widths.ensures.1)
 
-pub order-width-spec : {M : Type 1} → statement M
-order-width-spec = tie.close (tie.spec (λ c κs. search rules) (λ c κs. search rules) returns)
+pub order_width_spec : {M : Type 1} → statement M
+order_width_spec = tie.close (tie.spec
+    (λ c κs. search rules)
+    (λ c κs. search rules)
+    returns)

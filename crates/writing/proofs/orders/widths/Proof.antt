@@ -10,31 +10,31 @@ use borrow.Author.Rules.{rules}
 use Rattle.writing.proofs.orders.widths.Statement.{statement}
 use Rattle.writing.proofs.orders.widths.Tie as tie
 
-abbrev invariant-loop : tie.invariant-loop
+abbrev invariant-loop : tie.invariant-loop-i
 invariant-loop items n at₀ i₀ at i = Measuring (item_line items) 129 n at i
 
-abbrev decreases-loop : tie.decreases-loop
+abbrev decreases-loop : tie.decreases-loop-i
 decreases-loop items n at₀ i₀ at i = n - i
 
-loop-holds : tie.Need-loop-init invariant-loop decreases-loop
+loop-holds : tie.Need-loop-i-init invariant-loop decreases-loop
 loop-holds c = measuring-start 129 _
 
-add_at : tie.Need-overflow-add-at invariant-loop decreases-loop
-add_at c = let m = c.before.before.before.loop.invariant in omega (arith, m.some, m.few, c.item-width.ensures.1)
+add_at : tie.Need-overflow_add-at invariant-loop decreases-loop
+add_at c = let m = c.loop-i.invariant in omega (arith, m.some, m.few, c.item_width-at.ensures.1)
 
-loop-again : tie.Need-loop-preserved invariant-loop decreases-loop
+loop-again : tie.Need-loop-i-preserved invariant-loop decreases-loop
 loop-again c =
-    let w = c.item-width in
-    measuring-next c.before.before.before.loop.invariant (search rules) _
-    (w.ensures.0 ∙ ap (λ e. length (item_text e)) c.before.item-at.ensures) w.ensures.1
+    let w = c.item_width-at in
+    measuring-next c.loop-i.invariant (search rules) _
+    (w.ensures.0 ∙ ap (λ e. length (item_text e)) c.item_at.ensures) w.ensures.1
 
 returns : tie.Need-returns invariant-loop decreases-loop
 returns c =
-    let m = c.before.loop.invariant in
-    (measuring-done m (search rules), omega (arith, m.some, m.few, c.before.before.requires))
+    let m = c.loop-i.invariant in
+    (measuring-done m (search rules), omega (arith, m.some, m.few, c.requires))
 
-pub widths-spec : {M : Type 1} → statement M
-widths-spec =
+pub widths_spec : {M : Type 1} → statement M
+widths_spec =
     tie.close
     (tie.spec
     invariant-loop

@@ -8,48 +8,40 @@ use borrow.Author.Rules.{rules}
 use Rattle.writing.proofs.reports.fill.Statement.{statement}
 use Rattle.writing.proofs.reports.fill.Tie as tie
 
-abbrev invariant-loop : tie.invariant-loop
+abbrev invariant-loop : tie.invariant-loop-i
 invariant-loop out₀ ofs m logs n at₀ i₀ out at i = Filling (report_line ofs m logs) n out₀ out at i
 
-abbrev decreases-loop : tie.decreases-loop
+abbrev decreases-loop : tie.decreases-loop-i
 decreases-loop out₀ ofs m logs n at₀ i₀ out at i = n - i
 
-loop-holds : tie.Need-loop-init invariant-loop decreases-loop
+loop-holds : tie.Need-loop-i-init invariant-loop decreases-loop
 loop-holds c = filling-start _ _ _ (search rules)
 
-sub-put-report-line : tie.Need-overflow-sub-put-report-line invariant-loop decreases-loop
-sub-put-report-line c = filling-room c.before.loop.invariant
+sub-put-report-line : tie.Need-slice_bounds-put_report_line-count invariant-loop decreases-loop
+sub-put-report-line c = filling-room c.loop-i.invariant
 
-part-put-report-line-start : tie.Need-slice-bounds-put-report-line-start invariant-loop decreases-loop
-part-put-report-line-start c = filling-room c.before.loop.invariant
+part-put-report-line-start : tie.Need-slice_bounds-put_report_line-start invariant-loop decreases-loop
+part-put-report-line-start c = filling-room c.loop-i.invariant
 
--- the way back from where the room that was written is known
-module _ (w : tie.After-written invariant-loop decreases-loop) where
-  abbrev at-put-report-line : tie.After-put-report-line invariant-loop decreases-loop
-  at-put-report-line = w.before.before.before
-
-  abbrev at-loop : tie.At-loop invariant-loop decreases-loop
-  at-loop = at-put-report-line.before.before.before
-
-add_at : tie.Need-overflow-add-at invariant-loop decreases-loop
+add_at : tie.Need-overflow_add-at invariant-loop decreases-loop
 add_at c =
     omega (
       arith,
-      filling-fits (at-loop c).loop.invariant (search rules) _ _ _ _ refl
-          (at-put-report-line c).put-report-line.ensures c.written.ensures,
-      filling-length (at-loop c).loop.invariant,
+      filling-fits c.loop-i.invariant (search rules) _ _ _ _ refl
+          c.put_report_line-p.ensures c.written-at.ensures,
+      filling-length c.loop-i.invariant,
     )
 
-loop-again : tie.Need-loop-preserved invariant-loop decreases-loop
+loop-again : tie.Need-loop-i-preserved invariant-loop decreases-loop
 loop-again c =
-    filling-next (at-loop c).loop.invariant (search rules) _ _ _ _ refl
-    (at-put-report-line c).put-report-line.ensures c.written.ensures
+    filling-next c.loop-i.invariant (search rules) _ _ _ _ refl
+    c.put_report_line-p.ensures c.written-at.ensures
 
-same_length : tie.Need-same-length invariant-loop decreases-loop
-same_length c = filling-length c.before.loop.invariant
+same_length : tie.Need-shape_of-out invariant-loop decreases-loop
+same_length c = filling-length c.loop-i.invariant
 
 returns : tie.Need-returns invariant-loop decreases-loop
-returns c = filling-done c.before.loop.invariant (search rules)
+returns c = filling-done c.loop-i.invariant (search rules)
 
 pub fill_spec : {M : Type 1} → statement M
 fill_spec =

@@ -6,43 +6,29 @@ use borrow.Author.Rules.{rules}
 use Rattle.writing.proofs.reports.put_report.Statement.{statement}
 use Rattle.writing.proofs.reports.put_report.Tie as tie
 
-add-l : tie.Need-overflow-add-l
-add-l c = omega (arith, c.least2.ensures, c.before.least.ensures)
+add-l : tie.Need-overflow_add-l
+add-l c = omega (arith, c.least.ensures, c.least-k.ensures)
 
 widths-requires : tie.Need-widths-requires
-widths-requires c κs = omega (arith, c.least2.ensures, c.before.least.ensures)
+widths-requires c κs = omega (arith, c.least.ensures, c.least-k.ensures)
 
--- the way back from where the width is known
-module _ (w : tie.After-widths) where
-  abbrev at-least2 : tie.After-least2
-  at-least2 = w.before
-
-  abbrev at_least : tie.After-least
-  at_least = at-least2.before
-
-  abbrev start : tie.Start
-  start = at_least.before.before
-
-returns : tie.Need-returns
+returns : tie.Need-returns-then-out-widths
 returns c =
-    let w = c.before in
-    let a = (start w).args in
-    rw (← report-first a.ofs.now _ _ a.logs.now _ _ (at_least w).least.ensures (at-least2 w).least2.ensures)
-    (put-short _ _ (omega (arith, w.widths.ensures)))
+    let a = c.args in
+    rw (← report-first a.ofs.now _ _ a.logs.now _ _ c.least-k.ensures c.least.ensures)
+    (put-short _ _ (omega (arith, c.widths.ensures)))
 
 fill-requires : tie.Need-fill-requires
-fill-requires c κs = omega (arith, c.before.before.widths.ensures)
+fill-requires c κs = omega (arith, c.widths.ensures)
 
-returns-2 : tie.Need-returns-2
+returns-2 : tie.Need-returns
 returns-2 c =
-    let at_fill_lem = c.before.before in
-    let w = at_fill_lem.before.before.before in
-    let a = (start w).args in
-    rw (← report-first a.ofs.now _ _ a.logs.now _ _ (at_least w).least.ensures (at-least2 w).least2.ensures)
-    (put-fits _ _ _ _ (omega (arith, w.widths.ensures)) at_fill_lem.fill.ensures.0 at_fill_lem.fill.ensures.1)
+    let a = c.args in
+    rw (← report-first a.ofs.now _ _ a.logs.now _ _ c.least-k.ensures c.least.ensures)
+    (put-fits _ _ _ _ (omega (arith, c.widths.ensures)) c.fill.ensures.0 c.fill.ensures.1)
 
-pub put-report-spec : {M : Type 1} → statement M
-put-report-spec =
+pub put_report_spec : {M : Type 1} → statement M
+put_report_spec =
     tie.close
     (tie.spec
     (λ c κs. search rules)

@@ -7,15 +7,20 @@ use borrow.Author.Rules.{rules}
 use Rattle.writing.proofs.reports.report_width.Statement.{statement}
 use Rattle.writing.proofs.reports.report_width.Tie as tie
 
-add-widths : tie.Need-overflow-add-widths
-add-widths c = omega (arith, c.least2.ensures, c.before.least.ensures)
+add-widths : tie.Need-overflow_add-k
+add-widths c = omega (arith, c.least.ensures, c.least-k.ensures)
 
 widths-requires : tie.Need-widths-requires
-widths-requires c κs = omega (arith, c.least2.ensures, c.before.least.ensures)
+widths-requires c κs = omega (arith, c.least.ensures, c.least-k.ensures)
 
 returns : tie.Need-returns
-returns c = c.widths.ensures ∙ ap length (report-first _ _ _ _ _ _ c.before.before.least.ensures c.before.least2.ensures)
+returns c = c.widths.ensures ∙ ap length (report-first _ _ _ _ _ _ c.least-k.ensures c.least.ensures)
 
-pub report-width-spec : {M : Type 1} → statement M
-report-width-spec =
-    tie.close (tie.spec (λ c κs. search rules) (λ c κs. search rules) add-widths widths-requires returns)
+pub report_width_spec : {M : Type 1} → statement M
+report_width_spec =
+    tie.close (tie.spec
+    (λ c κs. search rules)
+    (λ c κs. search rules)
+    add-widths
+    widths-requires
+    returns)

@@ -7,26 +7,26 @@ use borrow.Author.Rules.{rules}
 use Rattle.writing.proofs.reports.widths.Statement.{statement}
 use Rattle.writing.proofs.reports.widths.Tie as tie
 
-abbrev invariant-loop : tie.invariant-loop
+abbrev invariant-loop : tie.invariant-loop-i
 invariant-loop ofs m logs n at₀ i₀ at i = Measuring (report_line ofs m logs) 130 n at i
 
-abbrev decreases-loop : tie.decreases-loop
+abbrev decreases-loop : tie.decreases-loop-i
 decreases-loop ofs m logs n at₀ i₀ at i = n - i
 
-loop-holds : tie.Need-loop-init invariant-loop decreases-loop
+loop-holds : tie.Need-loop-i-init invariant-loop decreases-loop
 loop-holds c = measuring-start 130 _
 
-add_at : tie.Need-overflow-add-at invariant-loop decreases-loop
-add_at c = let m = c.before.before.loop.invariant in omega (arith, m.some, m.few, c.line-width.ensures.1)
+add_at : tie.Need-overflow_add-at invariant-loop decreases-loop
+add_at c = let m = c.loop-i.invariant in omega (arith, m.some, m.few, c.line_width-at.ensures.1)
 
-loop-again : tie.Need-loop-preserved invariant-loop decreases-loop
-loop-again c = measuring-next c.before.before.loop.invariant (search rules) _ c.line-width.ensures.0 c.line-width.ensures.1
+loop-again : tie.Need-loop-i-preserved invariant-loop decreases-loop
+loop-again c = measuring-next c.loop-i.invariant (search rules) _ c.line_width-at.ensures.0 c.line_width-at.ensures.1
 
 returns : tie.Need-returns invariant-loop decreases-loop
-returns c = measuring-done c.before.loop.invariant (search rules)
+returns c = measuring-done c.loop-i.invariant (search rules)
 
-pub widths-spec : {M : Type 1} → statement M
-widths-spec =
+pub widths_spec : {M : Type 1} → statement M
+widths_spec =
     tie.close
     (tie.spec
     invariant-loop

@@ -5,11 +5,15 @@ use borrow.Author.Rules.{rules}
 use Rattle.writing.proofs.traces.event_fields.Statement.{statement}
 use Rattle.writing.proofs.traces.event_fields.Tie as tie
 
-returns : tie.Need-returns
-returns c = sym (ap event_fields c.before.e.given.1)
+returns : tie.Need-returns-in-Request
+returns c = sym (ap event_fields c.e-1.given.1)
 
-returns-2 : tie.Need-returns-2
-returns-2 c = sym (ap event_fields c.before.e2.given.1)
+returns-2 : tie.Need-returns-in-Response
+returns-2 c = sym (ap event_fields c.e-in-Response-1.given.1)
 
-pub event-fields-spec : {M : Type 1} → statement M
-event-fields-spec = tie.close (tie.spec (λ c. search rules) returns (λ c. search rules) returns-2)
+pub event_fields_spec : {M : Type 1} → statement M
+event_fields_spec = tie.close (tie.spec
+    (λ c. search rules)
+    returns
+    (λ c. search rules)
+    returns-2)

@@ -4,33 +4,27 @@ use borrow.Author.Rules.{rules}
 use Rattle.writing.proofs.traces.put_event_line.Statement.{statement}
 use Rattle.writing.proofs.traces.put_event_line.Tie as tie
 
-returns : tie.Need-returns
+returns : tie.Need-returns-in-Request
 returns c =
-    let at-enum-told = c.before.before.before.before.before in
-    let at-event-fields = at-enum-told.before.before in
-    let e = at-event-fields.before.before.args.e in
-    event-put e _ (request-text e _ _ _ _ at-enum-told.enum_told.given.1) _
-    at-event-fields.event-fields.ensures _ _ _ c.before.before.put-line.ensures
+    let e = c.args.e in
+    event-put e _ (request-text e _ _ _ _ c.enum_told-1.given.1) _
+    c.event_fields-f.ensures _ _ _ c.put_line.ensures
 
-returns-2 : tie.Need-returns-2
+returns-2 : tie.Need-returns-in-Response
 returns-2 c =
-    let at-enum-told2 = c.before.before.before.before.before in
-    let at-event-fields = at-enum-told2.before.before in
-    let e = at-event-fields.before.before.args.e in
-    event-put e _ (response-text e _ _ _ at-enum-told2.enum-told2.given.1) _
-    at-event-fields.event-fields.ensures _ _ _ c.before.before.put-line2.ensures
+    let e = c.args.e in
+    event-put e _ (response-text e _ _ _ c.enum_told-in-Response-1.given.1) _
+    c.event_fields-f.ensures _ _ _ c.put_line-in-Response.ensures
 
-pub put-event-line-spec : {M : Type 1} → statement M
-put-event-line-spec =
+pub put_event_line_spec : {M : Type 1} → statement M
+put_event_line_spec =
     tie.close
     (tie.spec
     (λ c κs. search rules)
     (λ c. search rules)
-    (λ c. search rules)
     (λ c κs. search rules)
     (λ c. search rules)
     returns
-    (λ c. search rules)
     (λ c. search rules)
     (λ c κs. search rules)
     (λ c. search rules)

@@ -7,7 +7,10 @@ use Rattle.writing.proofs.traces.trace_width.Statement.{statement}
 use Rattle.writing.proofs.traces.trace_width.Tie as tie
 
 returns : tie.Need-returns
-returns c = c.widths.ensures ∙ ap length (trace-texts _ _ _ c.before.least.ensures)
+returns c = c.widths.ensures ∙ ap length (trace-texts _ _ _ c.least.ensures)
 
-pub trace-width-spec : {M : Type 1} → statement M
-trace-width-spec = tie.close (tie.spec (λ c κs. search rules) (λ c κs. search rules) returns)
+pub trace_width_spec : {M : Type 1} → statement M
+trace_width_spec = tie.close (tie.spec
+    (λ c κs. search rules)
+    (λ c κs. search rules)
+    returns)
