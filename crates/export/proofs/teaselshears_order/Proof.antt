@@ -10,13 +10,13 @@ returns c = (not-placed _ _ _ _ c.if-out-lt7.true, λ e. absurd (omega (arith, e
 
 returns-2 : tie.Need-returns-in_default
 returns-2 c =
-    (not-ordered _ _ _ _ _ _ c.audit_order-r.ensures.1.0 c.enum_told-1.given.1, λ e. absurd (omega (arith, e)))
+    (not-ordered _ _ _ _ _ _ c.audit_order-r.ensures.1.0 c.in_default.is, λ e. absurd (omega (arith, e)))
 
 returns-3 : tie.Need-returns
 returns-3 c =
     let f = c.fill_audited.ensures in
     let r = c.audit_order-r.ensures in (
-      ordered _ _ _ _ _ _ r.1.0 _ c.written-1.given.1 _ r.0 c.if-out-lt7.false _ f,
+      ordered _ _ _ _ _ _ r.1.0 _ c.in-Wrote.is _ r.0 c.if-out-lt7.false _ f,
       λ e. first-number _ _ _ _ f r.1.1,
     )
 

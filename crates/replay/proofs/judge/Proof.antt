@@ -8,20 +8,20 @@ returns : tie.Need-returns-in-Broken
 returns c =
     λ opening h few.
     judges-eight opening c.args.ps _ _ _ _ c.least-t.ensures c.least-m.ensures
-    c.least-n.ensures _ c.row_8.ensures _ c.line-1.given.1
+    c.least-n.ensures _ c.row_8.ensures _ c.in-Broken.is
 
 returns-2 : tie.Need-returns-then-put_order
 returns-2 c =
     λ opening h few.
     judges-nine opening c.args.ps _ _ _ _ c.least-t.ensures c.least-m.ensures
-    c.least-n.ensures _ c.row_8.ensures c.enum_told-1.given.1 _ c.put_order.ensures.0
+    c.least-n.ensures _ c.row_8.ensures c.in-Kept.is _ c.put_order.ensures.0
     c.if-put_order.true
 
 returns-3 : tie.Need-returns
 returns-3 c =
     λ opening h few.
     judges-rest opening c.args.ps _ _ _ _ c.least-t.ensures c.least-m.ensures
-    c.least-n.ensures _ c.row_8.ensures c.enum_told-1.given.1 _ c.put_order.ensures.0
+    c.least-n.ensures _ c.row_8.ensures c.in-Kept.is _ c.put_order.ensures.0
     c.if-put_order.false _ (c.prepare.ensures.answered opening h few) _ c.judge_requests.ensures
 
 pub judge_spec : {M : Type 1} → statement M

@@ -30,7 +30,7 @@ module _ (p : tie.Then-l-object invariant-loop decreases-loop) where
 
   fits : p.loop-i.at < 1024
   fits =
-      own-fits _ _ _ _ _ _ _ p.loop-i.invariant.1 _ p.pre p.loop-i-test.true own
+      own-fits _ _ _ _ _ _ _ p.loop-i.invariant.1 _ p.requires p.loop-i-test.true own
 
 add_at : tie.Need-overflow_add-at invariant-loop decreases-loop
 add_at c = omega (arith, fits c.before.before)

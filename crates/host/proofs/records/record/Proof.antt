@@ -18,7 +18,7 @@ returns-2 : tie.Need-returns-in-Broken
 returns-2 c =
     promised _ _ _ _ _ _ _
     (refuses _ _ _ 2 _ _ (at-2 _ _ _ _ _ c.read_programs-ps.ensures (not-false _ c.if-not-ps.false) _
-    c.check_rules.ensures _ c.line-1.given.1)
+    c.check_rules.ensures _ c.in-Broken.is)
     c.refused-in-Broken.ensures)
 
 read-schedule-requires : tie.Need-read_schedule-requires
@@ -29,8 +29,8 @@ returns-3 c =
     promised _ _ _ _ _ _ _
     (refuses _ _ _ 13 _ _
     (at-13 _ _ _ _ _ c.read_programs-ps.ensures (not-false _ c.if-not-ps.false) _
-    c.check_rules.ensures c.enum_told-1.given.1 _ _ _ c.read_schedule.ensures _
-    c.line-in-Unreadable-1.given.1)
+    c.check_rules.ensures c.in-Kept.is _ _ _ c.read_schedule.ensures _
+    c.in-Unreadable.is)
     c.refused-in-Unreadable.ensures)
 
 lay-out-requires : tie.Need-lay_out-requires
@@ -40,14 +40,14 @@ lay-out-requires c κs =
 record-moves-requires : tie.Need-record_moves-requires
 record-moves-requires c κs =
     scheduled _ _ 0 0 _ c.read_programs-ps.ensures (not-false _ c.if-not-ps.false) _
-    c.check_rules.ensures c.enum_told-1.given.1 _ _ _ c.read_schedule.ensures _ c.n-1.given.1
+    c.check_rules.ensures c.in-Kept.is _ _ _ c.read_schedule.ensures _ c.in-Readable.is
 
 returns-4 : tie.Need-returns-in-Readable
 returns-4 c =
     promised _ _ _ _ _ _ _
     (record-as _ _ _ _ _ _ _
     (past-13 _ _ _ _ _ c.read_programs-ps.ensures (not-false _ c.if-not-ps.false) _
-    c.check_rules.ensures c.enum_told-1.given.1 _ _ _ c.read_schedule.ensures _ c.n-1.given.1
+    c.check_rules.ensures c.in-Kept.is _ _ _ c.read_schedule.ensures _ c.in-Readable.is
     _ c.lay_out.ensures)
     c.record_moves.ensures)
 

@@ -17,13 +17,13 @@ run-moves-requires c κs =
 returns : tie.Need-returns-in-Breaks
 returns c =
     refuses _ _ _ 14 _ _ (at-14 at_start _ _ _ _ _ _ _ _ _ (c.run_moves.ensures at_start (objects-start _ (length-replicate {A = ℕ} 8192 0)))
-    _ c.line-1.given.1) c.refused.ensures
+    _ c.in-Breaks.is) c.refused.ensures
 
 by-object-requires : tie.Need-by_object-k-requires
 by-object-requires c κs =
     (
       few-lines at_start _ _ _ _ 0 0 _ _ _ (c.run_moves.ensures at_start (objects-start _ (length-replicate {A = ℕ} 8192 0)))
-          _ c.c-1.given.1,
+          _ c.in-Ends.is,
       (length-replicate {A = ℕ} 6144 0),
     )
 
@@ -31,7 +31,7 @@ returns-2 : tie.Need-returns-in-Ends
 returns-2 c =
     record-as _ _ _ _ _ _ _
     (past-14 at_start _ _ _ _ _ _ _ _ _ (c.run_moves.ensures at_start (objects-start _ (length-replicate {A = ℕ} 8192 0)))
-    _ c.c-1.given.1 _ _ c.by_object-k.ensures)
+    _ c.in-Ends.is _ _ c.by_object-k.ensures)
     c.write_texts.ensures
 
 pub record_moves_spec : {M : Type 1} → statement M

@@ -38,59 +38,59 @@ move-at-requires c κs = c.requires.scheduled.moves_room
 arrive-requires : tie.Need-arrive-requires invariant-loop decreases-loop
 arrive-requires c κs =
     let p = c.requires in
-    arrival-room (c.loop-i.invariant p.opening p.held) c.loop-i-test.true (sym c.rid-1.given.1 ∙ c.move_at.ensures)
+    arrival-room (c.loop-i.invariant p.opening p.held) c.loop-i-test.true (sym c.in-Arrive.is ∙ c.move_at.ensures)
 
 returns : tie.Need-returns-in_default invariant-loop decreases-loop
 unfolding RunIs
 returns c = λ opening held.
-    arrival-breaks (c.loop-i.invariant opening held) c.loop-i-test.true (sym c.rid-1.given.1 ∙ c.move_at.ensures)
-    (sym (programs-length _ _)) (c.arrive.ensures _ _ _ _) c.enum_told-1.given.1
+    arrival-breaks (c.loop-i.invariant opening held) c.loop-i-test.true (sym c.in-Arrive.is ∙ c.move_at.ensures)
+    (sym (programs-length _ _)) (c.arrive.ensures _ _ _ _) c.in_default.is
 
 loop-again : tie.Need-loop-i-preserved-in-Arrive invariant-loop decreases-loop
 loop-again c = λ opening held.
-    arrival-on (c.loop-i.invariant opening held) c.loop-i-test.true (sym c.rid-1.given.1 ∙ c.move_at.ensures)
-    (sym (programs-length _ _)) (c.arrive.ensures _ _ _ _) _ c.d-1.given.1
+    arrival-on (c.loop-i.invariant opening held) c.loop-i-test.true (sym c.in-Arrive.is ∙ c.move_at.ensures)
+    (sym (programs-length _ _)) (c.arrive.ensures _ _ _ _) _ c.in-On.is
 
 -- ── a turn ──
 
 returns-2 : tie.Need-returns-in-Missing invariant-loop decreases-loop
 unfolding RunIs
 returns-2 c = λ opening held.
-    turn-missing (c.loop-i.invariant opening held) c.loop-i-test.true (sym c.rid-in-Turn-1.given.1 ∙ c.move_at.ensures)
-    (sym c.enum_told-in-Missing-1.given.1 ∙ c.standing_of.ensures)
+    turn-missing (c.loop-i.invariant opening held) c.loop-i-test.true (sym c.in-Turn.is ∙ c.move_at.ensures)
+    (sym c.in-Missing.is ∙ c.standing_of.ensures)
 
 loop-again-2 : tie.Need-loop-i-preserved-in-Idle invariant-loop decreases-loop
 loop-again-2 c = λ opening held.
-    turn-idle (c.loop-i.invariant opening held) c.loop-i-test.true (sym c.rid-in-Turn-1.given.1 ∙ c.move_at.ensures)
-    (sym c.enum_told-in-Idle-1.given.1 ∙ c.standing_of.ensures)
+    turn-idle (c.loop-i.invariant opening held) c.loop-i-test.true (sym c.in-Turn.is ∙ c.move_at.ensures)
+    (sym c.in-Idle.is ∙ c.standing_of.ensures)
 
 turn-requires : tie.Need-turn-requires invariant-loop decreases-loop
 turn-requires c κs =
-    let p = c.pre in
-    turn-room (c.loop-i.invariant p.opening p.held) c.loop-i-test.true (sym c.rid-in-Turn-1.given.1 ∙ c.move_at.ensures)
-    (sym c.s-1.given.1 ∙ c.standing_of.ensures)
+    let p = c.requires in
+    turn-room (c.loop-i.invariant p.opening p.held) c.loop-i-test.true (sym c.in-Turn.is ∙ c.move_at.ensures)
+    (sym c.in-Open.is ∙ c.standing_of.ensures)
 
 -- of an open request
 
 -- the number of a line has room
 add-t45 : tie.Need-overflow_add-result-in_default-turn invariant-loop decreases-loop
 add-t45 c =
-    omega (arith, c.loop-i-test.true, c.pre.scheduled.lines)
+    omega (arith, c.loop-i-test.true, c.requires.scheduled.lines)
 
 add-i-3 : tie.Need-overflow_add-i-in-Open invariant-loop decreases-loop
 add-i-3 c =
-    omega (arith, c.loop-i-test.true, c.pre.scheduled.lines)
+    omega (arith, c.loop-i-test.true, c.requires.scheduled.lines)
 
 returns-3 : tie.Need-returns-in_default-turn invariant-loop decreases-loop
 unfolding RunIs
 returns-3 c = λ opening held.
-    turn-breaks (c.loop-i.invariant opening held) c.loop-i-test.true (sym c.rid-in-Turn-1.given.1 ∙ c.move_at.ensures)
-    (sym c.s-1.given.1 ∙ c.standing_of.ensures) (code-held _ _) c.turn.ensures c.enum_told-in_default-turn-1.given.1
+    turn-breaks (c.loop-i.invariant opening held) c.loop-i-test.true (sym c.in-Turn.is ∙ c.move_at.ensures)
+    (sym c.in-Open.is ∙ c.standing_of.ensures) (code-held _ _) c.turn.ensures c.in_default-turn.is
 
 loop-again-3 : tie.Need-loop-i-preserved invariant-loop decreases-loop
 loop-again-3 c = λ opening held.
-    turn_on (c.loop-i.invariant opening held) c.loop-i-test.true (sym c.rid-in-Turn-1.given.1 ∙ c.move_at.ensures)
-    (sym c.s-1.given.1 ∙ c.standing_of.ensures) (code-held _ _) c.turn.ensures _ c.d-in-On-turn-1.given.1
+    turn_on (c.loop-i.invariant opening held) c.loop-i-test.true (sym c.in-Turn.is ∙ c.move_at.ensures)
+    (sym c.in-Open.is ∙ c.standing_of.ensures) (code-held _ _) c.turn.ensures _ c.in-On-turn.is
 
 returns-4 : tie.Need-returns invariant-loop decreases-loop
 unfolding RunIs

@@ -21,17 +21,17 @@ loop-holds c = refl
 
 loop-again : tie.Need-loop-done-preserved invariant-loop decreases-loop
 loop-again c =
-    went _ _ _ _ _ c.loop-done-test.true _ _ _ _ c.instr_at-i.ensures c.carry_out.ensures c.to-1.given.1
+    went _ _ _ _ _ c.loop-done-test.true _ _ _ _ c.instr_at-i.ensures c.carry_out.ensures c.in-Goes.is
     ∙ c.loop-done.invariant
 
 returns : tie.Need-returns-in-Asks invariant-loop decreases-loop
 returns c =
-    went _ _ _ _ _ c.loop-done-test.true _ _ _ _ c.instr_at-i.ensures c.carry_out.ensures c.o-1.given.1
+    went _ _ _ _ _ c.loop-done-test.true _ _ _ _ c.instr_at-i.ensures c.carry_out.ensures c.in-Asks.is
     ∙ c.loop-done.invariant
 
 returns-2 : tie.Need-returns-in-Replies invariant-loop decreases-loop
 returns-2 c =
-    went _ _ _ _ _ c.loop-done-test.true _ _ _ _ c.instr_at-i.ensures c.carry_out.ensures c.v-1.given.1
+    went _ _ _ _ _ c.loop-done-test.true _ _ _ _ c.instr_at-i.ensures c.carry_out.ensures c.in-Replies.is
     ∙ c.loop-done.invariant
 
 returns-3 : tie.Need-returns invariant-loop decreases-loop

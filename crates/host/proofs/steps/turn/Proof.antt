@@ -9,13 +9,13 @@ use Rattle.host.proofs.steps.turn.Tie as tie
 returns : tie.Need-returns-then-c-ge-ENTRIES
 returns c =
     turned _ _ _ _ _ _ _ _ _ _ c.progress_at-was.ensures c.locals_at-l.ensures
-    c.advance-stop.ensures _ c.next-1.given.1
+    c.advance-stop.ensures _ c.in-Operation.is
     (record { full = λ h. refl; operates = λ h. absurd (omega (arith, h, c.if-c-ge-ENTRIES.true)) })
 
 returns-2 : tie.Need-returns-in-Operation
 returns-2 c =
     turned _ _ _ _ _ _ _ _ _ _ c.progress_at-was.ensures c.locals_at-l.ensures
-    c.advance-stop.ensures _ c.next-1.given.1
+    c.advance-stop.ensures _ c.in-Operation.is
     (record {
       full = λ h. absurd (omega (arith, h, c.if-c-ge-ENTRIES.false));
       operates = λ h. (_, refl, c.operate-d.ensures _);
@@ -24,13 +24,13 @@ returns-2 c =
 returns-3 : tie.Need-returns-in-Reply
 returns-3 c =
     turned _ _ _ _ _ _ _ _ _ _ c.progress_at-was.ensures c.locals_at-l.ensures
-    c.advance-stop.ensures _ c.next-in-Reply-1.given.1
+    c.advance-stop.ensures _ c.in-Reply.is
     (record { counts = _; on = refl; rest = c.reply.ensures _ _ _ _ _ })
 
 returns-4 : tie.Need-returns-in-Cut
 returns-4 c =
     turned _ _ _ _ _ _ _ _ _ _ c.progress_at-was.ensures c.locals_at-l.ensures
-    c.advance-stop.ensures _ c.enum_told-1.given.1
+    c.advance-stop.ensures _ c.in-Cut.is
     (record { counts = _; on = refl; rest = c.reply-in-Cut.ensures _ _ _ _ _ })
 
 pub turn_spec : {M : Type 1} → statement M

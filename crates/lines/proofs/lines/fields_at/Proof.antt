@@ -15,10 +15,10 @@ abbrev decreases-loop : tie.decreases-loop-i
 decreases-loop s at n most v₀ i₀ p₀ v i p = n - i
 
 -- the way back from where a number was told, and that it stands there
-module _ (r : tie.In-Ended-2 invariant-loop decreases-loop) where
+module _ (r : tie.In-Ended invariant-loop decreases-loop) where
 
-  spelled : Ended r.x-1.given.0.0 r.x-1.given.0.1.0 ≡ spelled_at r.args.s.now r.loop-i.p
-  spelled = sym r.x-1.given.1 ∙ r.number_at.ensures
+  spelled : Ended r.in-Ended.x r.in-Ended.e ≡ spelled_at r.args.s.now r.loop-i.p
+  spelled = sym r.in-Ended.is ∙ r.number_at.ensures
 
 loop-holds : tie.Need-loop-i-init invariant-loop decreases-loop
 loop-holds c = filling _ _ _ _ _ (search rules) refl
@@ -26,32 +26,32 @@ loop-holds c = filling _ _ _ _ _ (search rules) refl
 returns : tie.Need-returns-then-most-i invariant-loop decreases-loop
 unfolding found_in
 returns c =
-    too-high c.loop-i.invariant (search rules) _ _ (spelled c.before.before.before.before) (search rules)
+    too-high c.loop-i.invariant (search rules) _ _ (spelled c.before.before.before) (search rules)
 
 returns-2 : tie.Need-returns-then-i-n invariant-loop decreases-loop
 unfolding found_in
 returns-2 c =
-    too_few c.loop-i.invariant (search rules) _ _ (spelled c.before.before.before.before.before.before.before.before) (search rules)
-    (sym c.comma.ensures ∙ not-true _ c.if-not-comma.true) (search rules)
+    too_few c.loop-i.invariant (search rules) _ _ (spelled c.before.before.before.before.before.before.before) (search rules)
+    (sym c.comma.ensures ∙ not-true _ c.if-not-comma.true-raw) (search rules)
 
 returns-3 : tie.Need-returns-then-not-comma invariant-loop decreases-loop
 unfolding found_in
 returns-3 c =
-    all c.loop-i.invariant (search rules) _ _ (spelled c.before.before.before.before.before.before.before.before) (search rules)
-    (sym c.comma.ensures ∙ not-true _ c.if-not-comma.true) (search rules)
+    all c.loop-i.invariant (search rules) _ _ (spelled c.before.before.before.before.before.before.before) (search rules)
+    (sym c.comma.ensures ∙ not-true _ c.if-not-comma.true-raw) (search rules)
 
 add-p : tie.Need-overflow_add-p invariant-loop decreases-loop
-add-p c = omega (arith, (comma-is _ _ (sym c.comma.ensures ∙ not-false _ c.if-not-comma.false)).0)
+add-p c = omega (arith, (comma-is _ _ (sym c.comma.ensures ∙ not-false _ c.if-not-comma.false-raw)).0)
 
 loop-again : tie.Need-loop-i-preserved invariant-loop decreases-loop
 loop-again c =
-    goes_on c.loop-i.invariant (search rules) _ _ (spelled c.before.before.before.before.before.before.before) (search rules)
-    (sym c.comma.ensures ∙ not-false _ c.if-not-comma.false)
+    goes_on c.loop-i.invariant (search rules) _ _ (spelled c.before.before.before.before.before.before) (search rules)
+    (sym c.comma.ensures ∙ not-false _ c.if-not-comma.false-raw)
 
 returns-4 : tie.Need-returns-in-Broken invariant-loop decreases-loop
 unfolding found_in
 returns-4 c =
-    no_number c.loop-i.invariant (search rules) (sym c.enum_told-1.given.1 ∙ c.number_at.ensures)
+    no_number c.loop-i.invariant (search rules) (sym c.in-Broken.is ∙ c.number_at.ensures)
 
 returns-5 : tie.Need-returns invariant-loop decreases-loop
 unfolding found_in

@@ -14,14 +14,14 @@ returns-2 : tie.Need-returns-then-not-begins
 unfolding found_in
 returns-2 c =
     let s = c.args.s.now in
-    line_other _ _ s _ (word_test _ s _ _ _ c.begins.ensures (not-true _ c.if-not-begins.true))
+    line_other _ _ s _ (word_test _ s _ _ _ c.begins.ensures (not-true _ c.if-not-begins.true-raw))
 
 returns-3 : tie.Need-returns
 returns-3 c =
     let a = c.args in
     let s = a.s.now in
     line_read a.w.now _ s a.at _ a.n _ _ c.least.ensures c.fields_at.ensures
-    (word_test _ s _ _ _ c.begins.ensures (not-false _ c.if-not-begins.false))
+    (word_test _ s _ _ _ c.begins.ensures (not-false _ c.if-not-begins.false-raw))
 
 pub line_at_spec : {M : Type 1} → statement M
 line_at_spec =

@@ -18,7 +18,7 @@ loop-again c =
     let l = c.loop-i in (
       search rules,
       l.invariant.1 ∙ spelling-on l.v _ _ l.i (search rules)
-          (sym c.w-1.given.1 ∙ c.push.ensures),
+          (sym c.in-Value.is ∙ c.push.ensures),
     )
 
 returns : tie.Need-returns-then-ends invariant-loop decreases-loop
@@ -31,7 +31,7 @@ returns-2 c =
     let l = c.loop-i in
     sym
     (l.invariant.1 ∙ spelling-bad l.v _ l.i (search rules) (sym c.ends.ensures ∙ c.if-ends.false)
-    (sym c.enum_told-1.given.1 ∙ c.push.ensures))
+    (sym c.in-Not.is ∙ c.push.ensures))
 
 returns-3 : tie.Need-returns invariant-loop decreases-loop
 returns-3 c = let l = c.loop-i in sym (l.invariant.1 ∙ spelling-out l.v _ l.i (search rules))

@@ -28,7 +28,7 @@ module _ (r : tie.After-fill_word-at) where
       let vs = take a.f.n a.f.v in
       let g = r.fill_word-at in
       writing-first w (numbers_text vs) g.new.out g.result
-      (writing-as (line-text w vs) (writing_start (line_text w vs) a.out.now r.pre.1))
+      (writing-as (line-text w vs) (writing_start (line_text w vs) a.out.now r.requires.1))
       g.ensures.1 g.ensures.0
 
 sub-fill-numbers : tie.Need-slice_bounds-fill_numbers-count

@@ -31,12 +31,12 @@ decreases-table ps count line₀ k₀ line k = count - k
 loop-holds : tie.Need-loop-j-init invariant-loop decreases-loop invariant-table decreases-table
 loop-holds c =
     program-kept c.table.invariant c.table-test.true
-    (sym c.head_keeps.ensures ∙ not-false _ c.if-not-head_keeps.false)
+    (sym c.head_keeps.ensures ∙ not-false _ c.if-not-head_keeps.false-raw)
 
 loop-again : tie.Need-loop-j-preserved invariant-loop decreases-loop invariant-table decreases-table
 loop-again c =
     instruction-kept c.loop-j.invariant c.loop-j-test.true
-    (sym c.body_keeps.ensures ∙ not-false _ c.if-not-body_keeps.false)
+    (sym c.body_keeps.ensures ∙ not-false _ c.if-not-body_keeps.false-raw)
 
 table-again : tie.Need-table-preserved invariant-loop decreases-loop invariant-table decreases-table
 table-again c = instructions-end c.loop-j.invariant c.loop-j-test.false

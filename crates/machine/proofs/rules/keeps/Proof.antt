@@ -19,7 +19,7 @@ returns-2 c =
     rw (
       lt-ltb _ _ c.if-code.false,
       row c.args.i.code,
-      sym c.fits-2.ensures ∙ not-true _ c.if-not-fits.true,
+      sym c.fits-2.ensures ∙ not-true _ c.if-not-fits.true-raw,
     )
 
 returns-3 : tie.Need-returns-then-not-fits-2
@@ -27,8 +27,8 @@ returns-3 c =
     rw (
       lt-ltb _ _ c.if-code.false,
       row c.args.i.code,
-      sym c.fits-2.ensures ∙ not-false _ c.if-not-fits.false,
-      sym c.fits-3.ensures ∙ not-true _ c.if-not-fits-2.true,
+      sym c.fits-2.ensures ∙ not-false _ c.if-not-fits.false-raw,
+      sym c.fits-3.ensures ∙ not-true _ c.if-not-fits-2.true-raw,
     )
 
 returns-4 : tie.Need-returns
@@ -37,8 +37,8 @@ returns-4 c =
       c.fits4.ensures,
       lt-ltb _ _ c.if-code.false,
       row c.args.i.code,
-      sym c.fits-2.ensures ∙ not-false _ c.if-not-fits.false,
-      sym c.fits-3.ensures ∙ not-false _ c.if-not-fits-2.false,
+      sym c.fits-2.ensures ∙ not-false _ c.if-not-fits.false-raw,
+      sym c.fits-3.ensures ∙ not-false _ c.if-not-fits-2.false-raw,
     )
 
 pub keeps_spec : {M : Type 1} → statement M

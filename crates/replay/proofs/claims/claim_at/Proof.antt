@@ -24,7 +24,7 @@ loop-holds c =
 
 returns : tie.Need-returns-then-is_claim invariant-loop decreases-loop
 returns c =
-    walk-hit _ _ c.pre.0 c.args.heads.now c.args.afters.now _ _ c.pre.1 _ c.loop-j.invariant
+    walk-hit _ _ c.requires.0 c.args.heads.now c.args.afters.now _ _ c.requires.1 _ c.loop-j.invariant
     (sym c.is_claim.ensures ∙ c.if-is_claim.true)
 
 element-copy-out-index-of-2 : tie.Need-bounds-afters-j invariant-loop decreases-loop
@@ -34,19 +34,19 @@ loop-less : tie.Need-loop-j-smaller invariant-loop decreases-loop
 loop-less c =
     omega (
       arith,
-      walk-down _ _ c.pre.0 c.args.heads.now c.args.afters.now _ _ c.pre.1 _
+      walk-down _ _ c.requires.0 c.args.heads.now c.args.afters.now _ _ c.requires.1 _
           c.loop-j.invariant c.loop-j-test.true _ c.index_of-j-in-loop-j.ensures,
     )
 
 loop-again : tie.Need-loop-j-preserved invariant-loop decreases-loop
 loop-again c =
-    walk-on _ _ c.pre.0 c.args.heads.now c.args.afters.now _ _ c.pre.1 _
+    walk-on _ _ c.requires.0 c.args.heads.now c.args.afters.now _ _ c.requires.1 _
     c.loop-j.invariant c.loop-j-test.true _ c.index_of-j-in-loop-j.ensures
     (sym c.is_claim.ensures ∙ c.if-is_claim.false)
 
 returns-2 : tie.Need-returns invariant-loop decreases-loop
 returns-2 c =
-    walk_end _ _ c.pre.0 c.args.heads.now c.args.afters.now _ _ c.pre.1 _ c.loop-j.invariant (omega arith)
+    walk_end _ _ c.requires.0 c.args.heads.now c.args.afters.now _ _ c.requires.1 _ c.loop-j.invariant (omega arith)
 
 pub claim_at_spec : {M : Type 1} → statement M
 claim_at_spec =

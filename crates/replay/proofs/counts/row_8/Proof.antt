@@ -33,7 +33,7 @@ loop-holds c = count-start
 
 loop-again : tie.Need-loop-k-preserved invariant-loop decreases-loop invariant-lines decreases-lines
 loop-again c =
-    count-on c.loop-k.invariant (search rules) (sym c.is_claimed.ensures ∙ not-false _ c.if-not-is_claimed.false)
+    count-on c.loop-k.invariant (search rules) (sym c.is_claimed.ensures ∙ not-false _ c.if-not-is_claimed.false-raw)
 
 lines-again : tie.Need-lines-preserved invariant-loop decreases-loop invariant-lines decreases-lines
 lines-again c =

@@ -6,16 +6,16 @@ use Rattle.replay.proofs.lookups.is_of.Statement.{statement}
 use Rattle.replay.proofs.lookups.is_of.Tie as tie
 
 returns : tie.Need-returns-then-response
-returns c = rw c.if-response.true (sym (ap (closes _) c.e-1.given.1))
+returns c = rw c.if-response.true (sym (ap (closes _) c.in-Request.is))
 
 returns-2 : tie.Need-returns-else-response
-returns-2 c = rw c.if-response.false (sym (ap (opens _) c.e-1.given.1))
+returns-2 c = rw c.if-response.false (sym (ap (opens _) c.in-Request.is))
 
 returns-3 : tie.Need-returns-then-response-2
-returns-3 c = rw c.if-response-2.true (sym (ap (closes _) c.e-in-Response-1.given.1))
+returns-3 c = rw c.if-response-2.true (sym (ap (closes _) c.in-Response.is))
 
 returns-4 : tie.Need-returns-else-response-2
-returns-4 c = rw c.if-response-2.false (sym (ap (opens _) c.e-in-Response-1.given.1))
+returns-4 c = rw c.if-response-2.false (sym (ap (opens _) c.in-Response.is))
 
 pub is_of_spec : {M : Type 1} → statement M
 is_of_spec = tie.close (tie.spec

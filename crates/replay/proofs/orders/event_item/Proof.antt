@@ -7,11 +7,11 @@ use Rattle.replay.proofs.orders.event_item.Tie as tie
 
 returns : tie.Need-returns-in-Request
 returns c =
-    request-item _ _ _ _ _ _ _ _ c.x-1.given.1 (slot-first _ _ _ _ _ c.requires.1 c.slot_of-s.ensures.1)
+    request-item _ _ _ _ _ _ _ _ c.in-Request.is (slot-first _ _ _ _ _ c.requires.1 c.slot_of-s.ensures.1)
 
 returns-2 : tie.Need-returns-in-Response
 returns-2 c =
-    response-item _ _ _ _ _ _ _ _ c.x-in-Response-1.given.1
+    response-item _ _ _ _ _ _ _ _ c.in-Response.is
     (slot-first _ _ _ _ _ c.requires.1 c.slot_of-s-in-Response.ensures.1)
     c.of_at-y.ensures
 

@@ -20,21 +20,21 @@ loop-again : tie.Need-loop-done-preserved-in-Goes invariant-loop decreases-loop
 loop-again c =
     going-moved _ _ _ _ _ _ _ _ _ _ _ _ _ _ _ _ c.loop-done.invariant c.loop-done-test.true
     _ _ c.carry_out.ensures
-    _ c.to-1.given.1
+    _ c.in-Goes.is
 
 returns : tie.Need-returns-then-count-k invariant-loop decreases-loop
 returns c =
     going-over _ _ _ _ _ _ _ _ _ _ _ _ _ _ _ _ c.loop-done.invariant c.loop-done-test.true
     _ _ c.carry_out.ensures
-    _ _ c.o-1.given.1 c.if-count-k.true
+    _ _ c.in-Asks.is c.if-count-k.true
     _ _ c.first_locals-l.ensures
 
 returns-2 : tie.Need-returns-in-Wrong invariant-loop decreases-loop
 returns-2 c =
     going-wrong _ _ _ _ _ _ _ _ _ _ _ _ _ _ _ _ c.loop-done.invariant c.loop-done-test.true
     _ _ c.carry_out.ensures
-    _ _ c.o-1.given.1 c.if-count-k.false
-    _ c.answer_of.ensures c.enum_told-1.given.1
+    _ _ c.in-Asks.is c.if-count-k.false
+    _ c.answer_of.ensures c.in-Wrong.is
     _ _ c.first_locals-l.ensures
 
 loop-again-2 : tie.Need-loop-done-preserved invariant-loop decreases-loop
@@ -42,14 +42,14 @@ loop-again-2 c =
     rw c.resume.ensures
     (going-right _ _ _ _ _ _ _ _ _ _ _ _ _ _ _ _ c.loop-done.invariant c.loop-done-test.true
     _ _ c.carry_out.ensures
-    _ _ c.o-1.given.1 c.if-count-k.false
-    _ _ c.answer_of.ensures c.v-1.given.1 _ c.most_of-most-in-Right.ensures)
+    _ _ c.in-Asks.is c.if-count-k.false
+    _ _ c.answer_of.ensures c.in-Right.is _ c.most_of-most-in-Right.ensures)
 
 returns-3 : tie.Need-returns-in-Replies invariant-loop decreases-loop
 returns-3 c =
     going-replied _ _ _ _ _ _ _ _ _ _ _ _ _ _ _ _ c.loop-done.invariant c.loop-done-test.true
     _ _ c.carry_out.ensures
-    _ c.v-in-Replies-1.given.1 _ c.stopped.ensures
+    _ c.in-Replies.is _ c.stopped.ensures
     _ _ c.first_locals-l.ensures
 
 returns-4 : tie.Need-returns invariant-loop decreases-loop

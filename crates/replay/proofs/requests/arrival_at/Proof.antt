@@ -6,10 +6,10 @@ use Rattle.replay.proofs.requests.arrival_at.Statement.{statement}
 use Rattle.replay.proofs.requests.arrival_at.Tie as tie
 
 returns : tie.Need-returns-in-Request
-returns c = sym (ap arrival_of (sym c.event_at.ensures ∙ c.prog-1.given.1))
+returns c = sym (ap arrival_of (sym c.event_at.ensures ∙ c.in-Request.is))
 
 returns-2 : tie.Need-returns-in-Response
-returns-2 c = sym (ap arrival_of (sym c.event_at.ensures ∙ c.enum_told-1.given.1))
+returns-2 c = sym (ap arrival_of (sym c.event_at.ensures ∙ c.in-Response.is))
 
 pub arrival_at_spec : {M : Type 1} → statement M
 arrival_at_spec =

@@ -12,12 +12,12 @@ returns c = sym (response-missing _ _ _ _ c.event_of-i.ensures c.if-t-i.true)
 returns-2 : tie.Need-returns-in-Request
 returns-2 c =
     sym (response-there _ _ _ _ c.event_of-i.ensures (omega (arith, c.if-t-i.false))
-    ∙ ap reply_from (sym c.event_at.ensures ∙ c.enum_told-1.given.1))
+    ∙ ap reply_from (sym c.event_at.ensures ∙ c.in-Request.is))
 
 returns-3 : tie.Need-returns-in-Response
 returns-3 c =
     sym (response-there _ _ _ _ c.event_of-i.ensures (omega (arith, c.if-t-i.false))
-    ∙ ap reply_from (sym c.event_at.ensures ∙ c.status-1.given.1))
+    ∙ ap reply_from (sym c.event_at.ensures ∙ c.in-Response.is))
 
 pub response_of_spec : {M : Type 1} → statement M
 response_of_spec =

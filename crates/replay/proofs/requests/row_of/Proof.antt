@@ -9,24 +9,24 @@ use Rattle.replay.proofs.requests.row_of.Tie as tie
 
 returns : tie.Need-returns-then-not-same_reply
 returns c =
-    row-reply _ _ _ _ _ _ c.end-1.given.1 _ _ _ c.same_reply.ensures c.if-not-same_reply.true
+    row-reply _ _ _ _ _ _ c.in-Ended.is _ _ _ c.same_reply.ensures c.if-not-same_reply.true-raw
 
 along-requires : tie.Need-along-requires
-along-requires c κs = let p = c.pre in (p.0, p.1, omega (arith, p.2, p.3))
+along-requires c κs = let p = c.requires in (p.0, p.1, omega (arith, p.2, p.3))
 
 returns-2 : tie.Need-returns-in-Differs
-returns-2 c = row-differs _ _ _ _ c.enum_told-1.given.1 _ _
+returns-2 c = row-differs _ _ _ _ c.in-Differs.is _ _
 
 returns-3 : tie.Need-returns-then-along
 returns-3 c =
     ap (λ b. cond b 0 12) (sym c.if-along.true)
-    ∙ row-path _ _ _ _ _ _ c.end-1.given.1 _ _ _ c.same_reply.ensures c.if-not-same_reply.false
+    ∙ row-path _ _ _ _ _ _ c.in-Ended.is _ _ _ c.same_reply.ensures c.if-not-same_reply.false-raw
     _ c.requires.2 _ c.along.ensures
 
 returns-4 : tie.Need-returns-else-along
 returns-4 c =
     ap (λ b. cond b 0 12) (sym c.if-along.false)
-    ∙ row-path _ _ _ _ _ _ c.end-1.given.1 _ _ _ c.same_reply.ensures c.if-not-same_reply.false
+    ∙ row-path _ _ _ _ _ _ c.in-Ended.is _ _ _ c.same_reply.ensures c.if-not-same_reply.false-raw
     _ c.requires.2 _ c.along.ensures
 
 pub row_of_spec : {M : Type 1} → statement M

@@ -9,18 +9,18 @@ use Rattle.replay.proofs.requests.same_reply.Tie as tie
 
 returns : tie.Need-returns-in-Silent
 returns c =
-    rw c.enum_told-1.given.1 (c.left_open.ensures ∙ silent-same (replied_as c.args.y))
+    rw c.in-Silent.is (c.left_open.ensures ∙ silent-same (replied_as c.args.y))
 
 returns-2 : tie.Need-returns-in-Silent-y
-returns-2 c = rw (c.x-1.given.1, c.enum_told-in-Silent-y-1.given.1)
+returns-2 c = rw (c.in-Said.is, c.in-Silent-y.is)
 
 returns-3 : tie.Need-returns-then-status-s
 returns-3 c =
-    rw (c.x-1.given.1, c.y-1.given.1, eq-eqb _ _ c.if-status-s.true)
+    rw (c.in-Said.is, c.in-Said-y.is, eq-eqb _ _ c.if-status-s.true)
 
 returns-4 : tie.Need-returns-else-status-s
 returns-4 c =
-    rw (c.x-1.given.1, c.y-1.given.1, ne_eqb _ _ c.if-status-s.false)
+    rw (c.in-Said.is, c.in-Said-y.is, ne_eqb _ _ c.if-status-s.false)
 
 pub same_reply_spec : {M : Type 1} → statement M
 same_reply_spec =

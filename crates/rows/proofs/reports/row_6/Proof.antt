@@ -32,12 +32,12 @@ add-j c =
 
 lines-again : tie.Need-lines-preserved-in-Request invariant-lines decreases-lines
 lines-again c =
-    match-on c.lines.invariant (search rules) _ c.event_at.ensures _ _ _ _ c.rid-1.given.1 (search rules) _
+    match-on c.lines.invariant (search rules) _ c.event_at.ensures _ _ _ _ c.in-Request.is (search rules) _
     c.of_at-x.ensures c.if-x-rid.false
 
 lines-again-2 : tie.Need-lines-preserved invariant-lines decreases-lines
 lines-again-2 c =
-    match-response c.lines.invariant (search rules) _ c.event_at.ensures _ _ _ c.enum_told-1.given.1
+    match-response c.lines.invariant (search rules) _ c.event_at.ensures _ _ _ c.in-Response.is
 
 add-t13 : tie.Need-overflow_add-result invariant-lines decreases-lines
 add-t13 c = omega (arith, c.lines.invariant.behind)

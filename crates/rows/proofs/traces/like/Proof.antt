@@ -5,14 +5,14 @@ use Rattle.rows.proofs.traces.like.Tie as tie
 
 returns : tie.Need-returns-in-Request-e
 returns c =
-    rw (c.d-1.given.1, c.e-1.given.1)
+    rw (c.in-Request.is, c.in-Request-e.is)
 
 returns-2 : tie.Need-returns-in-Response-e
-returns-2 c = rw (c.d-1.given.1, c.enum_told-1.given.1)
+returns-2 c = rw (c.in-Request.is, c.in-Response-e.is)
 
 returns-4 : tie.Need-returns-in-Response-e-2
 returns-4 c =
-    rw (c.d-in-Response-d-1.given.1, c.e-in-Response-1.given.1)
+    rw (c.in-Response.is, c.in-Response-e-2.is)
 
 pub like_spec : {M : Type 1} → statement M
 like_spec =

@@ -4,10 +4,10 @@ use Rattle.rows.proofs.traces.may_stand.Statement.{statement}
 use Rattle.rows.proofs.traces.may_stand.Tie as tie
 
 returns : tie.Need-returns-in-Request
-returns c = rw c.e-1.given.1
+returns c = rw c.in-Request.is
 
 returns-2 : tie.Need-returns-in-Response
-returns-2 c = rw c.e-in-Response-1.given.1 c.has_like.ensures
+returns-2 c = rw c.in-Response.is c.has_like.ensures
 
 pub may_stand_spec : {M : Type 1} → statement M
 may_stand_spec =

@@ -40,7 +40,7 @@ loop-again c =
 lines-again : tie.Need-lines-preserved invariant-loop decreases-loop invariant-lines decreases-lines
 lines-again c =
     stands _ c.lines.invariant (search rules) _ c.event_at-e.ensures
-    (sym c.may_stand.ensures ∙ not-false _ c.if-not-may_stand.false)
+    (sym c.may_stand.ensures ∙ not-false _ c.if-not-may_stand.false-raw)
     (pass-end c.loop-j.invariant (search rules))
 
 returns : tie.Need-returns-then-i-t invariant-loop decreases-loop invariant-lines decreases-lines

@@ -40,7 +40,7 @@ returns-2 : tie.Need-returns-in_default invariant-loop decreases-loop
 returns-2 c =
     let r = c.loop-at.invariant in
     held-refused r (line-unknown r.reading programs-apart (search rules) _ _ c.program_line.ensures
-    c.enum_told-1.given.1) _ c.unreadable-in_default.ensures
+    c.in_default.is) _ c.unreadable-in_default.ensures
 
 -- the way back from a line of one of the kinds
 module _ (p : tie.In-Known invariant-loop decreases-loop) where
@@ -48,14 +48,14 @@ module _ (p : tie.In-Known invariant-loop decreases-loop) where
   -- the line is of kind j
   abbrev Of-kind : ℕ → Type 0
   Of-kind j =
-      Fits program_kinds p.args.s.now p.loop-at.at j p.k-1.given.0.1.0
+      Fits program_kinds p.args.s.now p.loop-at.at j p.in-Known.e
       (numbers_in program_kinds j p.program_line.new.v)
 
 returns-3 : tie.Need-returns-then-s-e invariant-loop decreases-loop
 returns-3 c =
     let r = c.loop-at.invariant in
     held-refused r
-    (line-cut r.reading programs-apart (search rules) _ _ c.program_line.ensures _ _ c.k-1.given.1 (search rules))
+    (line-cut r.reading programs-apart (search rules) _ _ c.program_line.ensures _ _ c.in-Known.is (search rules))
     _ c.unreadable-then-s-e.ensures
 
 -- the counts are small
@@ -66,7 +66,7 @@ few l = let r = l.loop-at.invariant in omega (arith, r.few, r.current.few, r.rea
 
 is-program : (q : tie.In-0 invariant-loop decreases-loop) → Of-kind q.before.before 0
 is-program q =
-    is_known program_kinds programs-apart _ _ _ _ q.program_line.ensures _ _ 0 q.k-1.given.1
+    is_known program_kinds programs-apart _ _ _ _ q.program_line.ensures _ _ 0 q.in-Known.is
     q.in-0.keys1
 
 returns-4 : tie.Need-returns-then-m-ge-PROGRAMS invariant-loop decreases-loop
@@ -74,16 +74,16 @@ returns-4 c =
     program-full c.loop-at.invariant (search rules) (is-program c.before.before) (search rules) _ c.unreadable-then-m-ge-PROGRAMS.ensures
 
 add-table : tie.Need-overflow_add-table invariant-loop decreases-loop
-add-table c = omega (arith, few c.before.before.before.before.before.before.before.before.before)
+add-table c = omega (arith, few c.before.before.before.before.before.before.before)
 
 array-set-from-table : tie.Need-bounds-table-m invariant-loop decreases-loop
 array-set-from-table c = omega (arith, c.loop-at.invariant.room)
 
 add-m : tie.Need-overflow_add-m invariant-loop decreases-loop
-add-m c = omega (arith, few c.before.before.before.before.before.before.before.before.before.before.before.before)
+add-m c = omega (arith, few c.before.before.before.before.before.before.before.before.before.before)
 
 add-line : tie.Need-overflow_add-line invariant-loop decreases-loop
-add-line c = omega (arith, few c.before.before.before.before.before.before.before.before.before.before.before.before)
+add-line c = omega (arith, few c.before.before.before.before.before.before.before.before.before.before)
 
 loop-less : tie.Need-loop-at-smaller-in-0 invariant-loop decreases-loop
 loop-less c = omega (arith, (is-program c.before.before.before.before).end)
@@ -97,7 +97,7 @@ loop-again c =
 
 is-do : (q : tie.In_default-k invariant-loop decreases-loop) → Of-kind q.before.before 1
 is-do q =
-    is_last program_kinds programs-apart _ _ _ _ q.program_line.ensures _ _ 1 q.k-1.given.1 refl
+    is_last program_kinds programs-apart _ _ _ _ q.program_line.ensures _ _ 1 q.in-Known.is refl
     (omega (arith, q.in_default-k.rest.1))
 
 returns-5 : tie.Need-returns-then-m-eq0 invariant-loop decreases-loop
@@ -112,10 +112,10 @@ array-set-from-code : tie.Need-bounds-code-n invariant-loop decreases-loop
 array-set-from-code c = omega (arith, c.loop-at.invariant.size)
 
 add-n : tie.Need-overflow_add-n invariant-loop decreases-loop
-add-n c = omega (arith, few c.before.before.before.before.before.before.before.before.before.before.before.before)
+add-n c = omega (arith, few c.before.before.before.before.before.before.before.before.before.before)
 
 add-line-2 : tie.Need-overflow_add-line-in_default-k invariant-loop decreases-loop
-add-line-2 c = omega (arith, few c.before.before.before.before.before.before.before.before.before.before.before.before)
+add-line-2 c = omega (arith, few c.before.before.before.before.before.before.before.before.before.before)
 
 loop-less-2 : tie.Need-loop-at-smaller invariant-loop decreases-loop
 loop-less-2 c = omega (arith, (is-do c.before.before.before.before).end)

@@ -51,7 +51,7 @@ add-line-2 c = omega (arith, few c.before)
 returns-2 : tie.Need-returns-in_default invariant-loop decreases-loop
 returns-2 c =
     let r = c.loop-at.invariant in
-    held-refused r (line-unknown r.reading report-apart (search rules) _ _ c.report_line.ensures c.enum_told-1.given.1)
+    held-refused r (line-unknown r.reading report-apart (search rules) _ _ c.report_line.ensures c.in_default.is)
 
 -- the way back from a line of one of the kinds
 module _ (p : tie.In-Known invariant-loop decreases-loop) where
@@ -59,20 +59,20 @@ module _ (p : tie.In-Known invariant-loop decreases-loop) where
   -- the line is of kind j
   abbrev Of-kind : ℕ → Type 0
   Of-kind j =
-      Fits report_kinds p.args.s.now p.loop-at.at j p.k-1.given.0.1.0
+      Fits report_kinds p.args.s.now p.loop-at.at j p.in-Known.e
       (numbers_in report_kinds j p.report_line.new.v)
 
 returns-3 : tie.Need-returns-then-s-e invariant-loop decreases-loop
 returns-3 c =
     let r = c.loop-at.invariant in
     held-refused r
-    (line-cut r.reading report-apart (search rules) _ _ c.report_line.ensures _ _ c.k-1.given.1 (search rules))
+    (line-cut r.reading report-apart (search rules) _ _ c.report_line.ensures _ _ c.in-Known.is (search rules))
 
 -- ── an `of` line ──
 
 is-of : (q : tie.In-0 invariant-loop decreases-loop) → Of-kind q.before.before 0
 is-of q =
-    is_known report_kinds report-apart _ _ _ _ q.report_line.ensures _ _ 0 q.k-1.given.1
+    is_known report_kinds report-apart _ _ _ _ q.report_line.ensures _ _ 0 q.in-Known.is
     q.in-0.keys1
 
 returns-4 : tie.Need-returns-then-n-gt0 invariant-loop decreases-loop
@@ -83,7 +83,7 @@ returns-5 c =
     of-full c.loop-at.invariant (search rules) (is-of c.before.before) (search rules) (search rules)
 
 add-m : tie.Need-overflow_add-m invariant-loop decreases-loop
-add-m c = omega (arith, few c.before.before.before.before.before.before.before.before.before.before.before.before.before.before)
+add-m c = omega (arith, few c.before.before.before.before.before.before.before.before.before.before.before.before)
 
 loop-less : tie.Need-loop-at-smaller-in-0 invariant-loop decreases-loop
 loop-less c = omega (arith, (is-of c.before.before.before.before.before.before).end)
@@ -97,21 +97,21 @@ loop-again c =
 
 is-log : (q : tie.In_default-k invariant-loop decreases-loop) → Of-kind q.before.before 1
 is-log q =
-    is_last report_kinds report-apart _ _ _ _ q.report_line.ensures _ _ 1 q.k-1.given.1 refl
+    is_last report_kinds report-apart _ _ _ _ q.report_line.ensures _ _ 1 q.in-Known.is refl
     (omega (arith, q.in_default-k.rest.1))
 
 returns-6 : tie.Need-returns-then-not-is_operation invariant-loop decreases-loop
 returns-6 c =
     log-kind c.loop-at.invariant (search rules) (is-log c.before.before.before.before) _ c.entry_from-x.ensures
-    (sym c.is_operation.ensures ∙ not-true _ c.if-not-is_operation.true)
+    (sym c.is_operation.ensures ∙ not-true _ c.if-not-is_operation.true-raw)
 
 returns-7 : tie.Need-returns-then-n-ge-ENTRIES invariant-loop decreases-loop
 returns-7 c =
     log-full c.loop-at.invariant (search rules) (is-log c.before.before.before.before.before) _ c.entry_from-x.ensures
-    (sym c.is_operation.ensures ∙ not-false _ c.if-not-is_operation.false) (search rules)
+    (sym c.is_operation.ensures ∙ not-false _ c.if-not-is_operation.false-raw) (search rules)
 
 add-n : tie.Need-overflow_add-n invariant-loop decreases-loop
-add-n c = omega (arith, few c.before.before.before.before.before.before.before.before.before.before.before.before.before.before.before)
+add-n c = omega (arith, few c.before.before.before.before.before.before.before.before.before.before.before.before.before)
 
 loop-less-2 : tie.Need-loop-at-smaller invariant-loop decreases-loop
 loop-less-2 c = omega (arith, (is-log c.before.before.before.before.before.before.before).end)
@@ -119,7 +119,7 @@ loop-less-2 c = omega (arith, (is-log c.before.before.before.before.before.befor
 loop-again-2 : tie.Need-loop-at-preserved invariant-loop decreases-loop
 loop-again-2 c =
     log-on c.loop-at.invariant (search rules) (is-log c.before.before.before.before.before.before.before) _ c.entry_from-x.ensures
-    (sym c.is_operation.ensures ∙ not-false _ c.if-not-is_operation.false) (search rules) (search rules) _ c.put_entry.ensures
+    (sym c.is_operation.ensures ∙ not-false _ c.if-not-is_operation.false-raw) (search rules) (search rules) _ c.put_entry.ensures
 
 -- ── the end ──
 

@@ -6,10 +6,10 @@ use Rattle.text.proofs.schedule.code_of.Statement.{statement}
 use Rattle.text.proofs.schedule.code_of.Tie as tie
 
 returns : tie.Need-returns-in-Arrive
-returns c = let a = c.args in ap (move_code a.m) (sym c.enum_told-1.given.1)
+returns c = let a = c.args in ap (move_code a.m) (sym c.in-Arrive.is)
 
 returns-2 : tie.Need-returns-in-Turn
-returns-2 c = let a = c.args in ap (move_code a.m) (sym c.x-1.given.1)
+returns-2 c = let a = c.args in ap (move_code a.m) (sym c.in-Turn.is)
 
 pub code_of_spec : {M : Type 1} → statement M
 code_of_spec =

@@ -11,13 +11,13 @@ use Rattle.text.proofs.schedule.put_arrival.Tie as tie
 returns : tie.Need-returns-in_default
 unfolding with_arrival
 returns c =
-    let a = c.args in ap (with_arrival a.arrivals.now a.m) (sym c.enum_told-1.given.1)
+    let a = c.args in ap (with_arrival a.arrivals.now a.m) (sym c.in_default.is)
 
 returns-2 : tie.Need-returns
 unfolding with_arrival with_row
 returns-2 c =
     let a = c.args in
-    sets-four a.arrivals.now (a.m % 64 * 4) _ _ _ _ ∙ ap (with_arrival a.arrivals.now a.m) (sym c.x-1.given.1)
+    sets-four a.arrivals.now (a.m % 64 * 4) _ _ _ _ ∙ ap (with_arrival a.arrivals.now a.m) (sym c.in-Arrive.is)
 
 pub put_arrival_spec : {M : Type 1} → statement M
 put_arrival_spec =

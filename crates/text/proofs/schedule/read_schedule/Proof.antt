@@ -44,7 +44,7 @@ add-line c = omega (arith, few c.before)
 returns-2 : tie.Need-returns-in_default invariant-loop decreases-loop
 returns-2 c =
     let r = c.loop-at.invariant in
-    held-refused r (line-unknown r.reading schedule-apart (search rules) _ _ c.schedule_line.ensures c.enum_told-1.given.1)
+    held-refused r (line-unknown r.reading schedule-apart (search rules) _ _ c.schedule_line.ensures c.in_default.is)
 
 -- the way back from a line of one of the kinds
 module _ (p : tie.In-Known invariant-loop decreases-loop) where
@@ -52,20 +52,20 @@ module _ (p : tie.In-Known invariant-loop decreases-loop) where
   -- the line is of kind j
   abbrev Of-kind : ℕ → Type 0
   Of-kind j =
-      Fits schedule_kinds p.args.s.now p.loop-at.at j p.k-1.given.0.1.0
+      Fits schedule_kinds p.args.s.now p.loop-at.at j p.in-Known.e
       (numbers_in schedule_kinds j p.schedule_line.new.v)
 
 returns-3 : tie.Need-returns-then-s-e invariant-loop decreases-loop
 returns-3 c =
     let r = c.loop-at.invariant in
     held-refused r
-    (line-cut r.reading schedule-apart (search rules) _ _ c.schedule_line.ensures _ _ c.k-1.given.1 (search rules))
+    (line-cut r.reading schedule-apart (search rules) _ _ c.schedule_line.ensures _ _ c.in-Known.is (search rules))
 
 -- ── an arrival ──
 
 is-arrival : (q : tie.In-0 invariant-loop decreases-loop) → Of-kind q.before.before 0
 is-arrival q =
-    is_known schedule_kinds schedule-apart _ _ _ _ q.schedule_line.ensures _ _ 0 q.k-1.given.1
+    is_known schedule_kinds schedule-apart _ _ _ _ q.schedule_line.ensures _ _ 0 q.in-Known.is
     q.in-0.keys1
 
 returns-4 : tie.Need-returns-then-m-ge-ARRIVALS invariant-loop decreases-loop
@@ -75,10 +75,10 @@ put-move-requires : tie.Need-put_move-requires invariant-loop decreases-loop
 put-move-requires c κs = c.loop-at.invariant.room_moves
 
 add-m : tie.Need-overflow_add-m invariant-loop decreases-loop
-add-m c = omega (arith, few c.before.before.before.before.before.before.before.before.before.before.before.before.before.before)
+add-m c = omega (arith, few c.before.before.before.before.before.before.before.before.before.before.before.before)
 
 add-n : tie.Need-overflow_add-n invariant-loop decreases-loop
-add-n c = omega (arith, few c.before.before.before.before.before.before.before.before.before.before.before.before.before.before)
+add-n c = omega (arith, few c.before.before.before.before.before.before.before.before.before.before.before.before)
 
 loop-less : tie.Need-loop-at-smaller-in-0 invariant-loop decreases-loop
 loop-less c = omega (arith, (is-arrival c.before.before.before.before.before.before).end)
@@ -92,14 +92,14 @@ loop-again c =
 
 is-turn : (q : tie.In_default-k invariant-loop decreases-loop) → Of-kind q.before.before 1
 is-turn q =
-    is_last schedule_kinds schedule-apart _ _ _ _ q.schedule_line.ensures _ _ 1 q.k-1.given.1 refl
+    is_last schedule_kinds schedule-apart _ _ _ _ q.schedule_line.ensures _ _ 1 q.in-Known.is refl
     (omega (arith, q.in_default-k.rest.1))
 
 put-move-requires-2 : tie.Need-put_move-requires-in_default-k invariant-loop decreases-loop
 put-move-requires-2 c κs = c.loop-at.invariant.room_moves
 
 add-n-2 : tie.Need-overflow_add-n-in_default-k invariant-loop decreases-loop
-add-n-2 c = omega (arith, few c.before.before.before.before.before.before.before.before.before.before.before.before.before)
+add-n-2 c = omega (arith, few c.before.before.before.before.before.before.before.before.before.before.before)
 
 loop-less-2 : tie.Need-loop-at-smaller invariant-loop decreases-loop
 loop-less-2 c = omega (arith, (is-turn c.before.before.before.before.before).end)

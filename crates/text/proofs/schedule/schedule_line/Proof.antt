@@ -11,18 +11,18 @@ use Rattle.text.proofs.schedule.schedule_line.Tie as tie
 returns : tie.Need-returns-in-At
 returns c =
     told-known schedule_kinds schedule-apart _ _ 1 (omega arith) _ _ _
-    c.e-1.given.1 c.line_at_lem.ensures
+    c.in-At.is c.line_at_lem.ensures
 
 returns-2 : tie.Need-returns-in-At-line_at
 returns-2 c =
     told-known schedule_kinds schedule-apart _ _ 0 (omega arith) _ _ _
-    c.e-in-At-line_at-2-1.given.1 c.line_at-2.ensures
+    c.in-At-line_at.is c.line_at-2.ensures
 
 returns-3 : tie.Need-returns
 returns-3 c =
     told-unknown schedule_kinds _ _ _ (
-      missed arrive_line _ _ _ _ _ c.enum_told-in_default-line_at-1.given.1 c.line_at-2.ensures,
-      (missed turn_line _ _ _ _ _ c.enum_told-1.given.1 c.line_at_lem.ensures, tt),
+      missed arrive_line _ _ _ _ _ c.in_default-line_at.is c.line_at-2.ensures,
+      (missed turn_line _ _ _ _ _ c.in_default.is c.line_at_lem.ensures, tt),
     )
 
 pub schedule_line_spec : {M : Type 1} → statement M

@@ -12,13 +12,13 @@ returns : tie.Need-returns-in-Request
 unfolding with_event with_row
 returns c =
     let a = c.args in
-    sets-five a.events.now (a.i % 128 * 5) 0 _ _ _ _ ∙ ap (with_event a.events.now a.i) (sym c.x-1.given.1)
+    sets-five a.events.now (a.i % 128 * 5) 0 _ _ _ _ ∙ ap (with_event a.events.now a.i) (sym c.in-Request.is)
 
 returns-2 : tie.Need-returns-in-Response
 unfolding with_event with_row
 returns-2 c =
     let a = c.args in
-    sets-five a.events.now (a.i % 128 * 5) 1 _ _ _ 0 ∙ ap (with_event a.events.now a.i) (sym c.x-in-Response-1.given.1)
+    sets-five a.events.now (a.i % 128 * 5) 1 _ _ _ 0 ∙ ap (with_event a.events.now a.i) (sym c.in-Response.is)
 
 pub put_event_spec : {M : Type 1} → statement M
 put_event_spec =

@@ -48,7 +48,7 @@ add-line-2 c = omega (arith, few c.before)
 returns-2 : tie.Need-returns-in_default invariant-loop decreases-loop
 returns-2 c =
     let r = c.loop-at.invariant in
-    held-refused r (line-unknown r.reading trace-apart (search rules) _ _ c.trace_line.ensures c.enum_told-1.given.1)
+    held-refused r (line-unknown r.reading trace-apart (search rules) _ _ c.trace_line.ensures c.in_default.is)
 
 -- the way back from a line of one of the kinds
 module _ (p : tie.In-Known invariant-loop decreases-loop) where
@@ -56,20 +56,20 @@ module _ (p : tie.In-Known invariant-loop decreases-loop) where
   -- the line is of kind j
   abbrev Of-kind : ℕ → Type 0
   Of-kind j =
-      Fits trace_kinds p.args.s.now p.loop-at.at j p.k-1.given.0.1.0
+      Fits trace_kinds p.args.s.now p.loop-at.at j p.in-Known.e
       (numbers_in trace_kinds j p.trace_line.new.v)
 
 returns-3 : tie.Need-returns-then-s-e invariant-loop decreases-loop
 returns-3 c =
     let r = c.loop-at.invariant in
     held-refused r
-    (line-cut r.reading trace-apart (search rules) _ _ c.trace_line.ensures _ _ c.k-1.given.1 (search rules))
+    (line-cut r.reading trace-apart (search rules) _ _ c.trace_line.ensures _ _ c.in-Known.is (search rules))
 
 -- ── a request ──
 
 is-request : (q : tie.In-0 invariant-loop decreases-loop) → Of-kind q.before.before 0
 is-request q =
-    is_known trace_kinds trace-apart _ _ _ _ q.trace_line.ensures _ _ 0 q.k-1.given.1
+    is_known trace_kinds trace-apart _ _ _ _ q.trace_line.ensures _ _ 0 q.in-Known.is
     q.in-0.keys1
 
 returns-4 : tie.Need-returns-then-m-ge-REQUESTS invariant-loop decreases-loop
@@ -77,10 +77,10 @@ returns-4 c = request-full c.loop-at.invariant (search rules) (is-request c.befo
 
 add-put-event : tie.Need-overflow_add-m invariant-loop decreases-loop
 add-put-event c =
-    omega (arith, few c.before.before.before.before.before.before.before.before.before.before)
+    omega (arith, few c.before.before.before.before.before.before.before.before)
 
 add-m : tie.Need-overflow_add-m invariant-loop decreases-loop
-add-m c = omega (arith, few c.before.before.before.before.before.before.before.before.before.before)
+add-m c = omega (arith, few c.before.before.before.before.before.before.before.before)
 
 loop-less : tie.Need-loop-at-smaller-in-0 invariant-loop decreases-loop
 loop-less c = omega (arith, (is-request c.before.before.before.before.before).end)
@@ -94,7 +94,7 @@ loop-again c =
 
 is-response : (q : tie.In_default-k invariant-loop decreases-loop) → Of-kind q.before.before 1
 is-response q =
-    is_last trace_kinds trace-apart _ _ _ _ q.trace_line.ensures _ _ 1 q.k-1.given.1 refl
+    is_last trace_kinds trace-apart _ _ _ _ q.trace_line.ensures _ _ 1 q.in-Known.is refl
     (omega (arith, q.in_default-k.rest.1))
 
 returns-5 : tie.Need-returns-then-n-ge-RESPONSES invariant-loop decreases-loop
@@ -102,10 +102,10 @@ returns-5 c = response-full c.loop-at.invariant (search rules) (is-response c.be
 
 add-put-event-2 : tie.Need-overflow_add-m-in_default-k invariant-loop decreases-loop
 add-put-event-2 c =
-    omega (arith, few c.before.before.before.before.before.before.before.before.before.before)
+    omega (arith, few c.before.before.before.before.before.before.before.before)
 
 add-n : tie.Need-overflow_add-n invariant-loop decreases-loop
-add-n c = omega (arith, few c.before.before.before.before.before.before.before.before.before.before.before.before.before)
+add-n c = omega (arith, few c.before.before.before.before.before.before.before.before.before.before.before)
 
 loop-less-2 : tie.Need-loop-at-smaller invariant-loop decreases-loop
 loop-less-2 c = omega (arith, (is-response c.before.before.before.before.before).end)

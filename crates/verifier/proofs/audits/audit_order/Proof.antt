@@ -18,22 +18,22 @@ returns-2 : tie.Need-returns-in-Broken
 returns-2 c =
     ordered-refused _ _ _ _ _ _ _ _ c.no_order-in-Broken.ensures c.refused-in-Broken.ensures (λ e. omega arith)
     (at-2 _ _ _ _ c.read_programs-ps.ensures (not-false _ c.if-not-ps.false) _
-    c.check_rules.ensures _ c.line-1.given.1)
+    c.check_rules.ensures _ c.in-Broken.is)
 
 returns-3 : tie.Need-returns-in-Unreadable
 returns-3 c =
     ordered-refused _ _ _ _ _ _ _ _ c.no_order-in-Unreadable.ensures c.refused-in-Unreadable.ensures (λ e. omega arith)
     (at-3 _ _ _ _ c.read_programs-ps.ensures (not-false _ c.if-not-ps.false) _
-    c.check_rules.ensures c.enum_told-1.given.1 _ _ c.read_trace.ensures _
-    c.line-in-Unreadable-1.given.1)
+    c.check_rules.ensures c.in-Kept.is _ _ c.read_trace.ensures _
+    c.in-Unreadable.is)
 
 -- and from where the report was checked
 
 returns-4 : tie.Need-returns-in-Refused
 returns-4 c =
     let told = at-4-to-7 _ _ _ _ c.read_programs-ps.ensures (not-false _ c.if-not-ps.false) _
-    c.check_rules.ensures c.enum_told-1.given.1 _ _ c.read_trace.ensures _ c.t-1.given.1
-    _ _ c.check_batch.result c.check_batch.ensures _ _ c.row-1.given.1 in
+    c.check_rules.ensures c.in-Kept.is _ _ c.read_trace.ensures _ c.in-Readable.is
+    _ _ c.check_batch.result c.check_batch.ensures _ _ c.in-Refused.is in
     ordered-refused _ _ _ _ _ _ _ _ c.no_order-in-Refused.ensures c.refused-in-Refused.ensures told.0 told.1
 
 -- behind rows 8 to 12
@@ -42,14 +42,14 @@ module _ (c : tie.After-result-audited) where
   found :
       let texts = c.args in
       let lent = c.check_batch.last.1.1.1.1 in
-      let m = c.m-1.given.0.0 in
-      let n = c.m-1.given.0.1.0 in
+      let m = c.in-Counts.m in
+      let n = c.in-Counts.n in
       Found texts.programs.now texts.trace.now texts.report.now
-      (arrays c.read_trace.new.events c.t-1.given.0.0 lent.0 m lent.1.0 n) c.result-audited.result
+      (arrays c.read_trace.new.events c.in-Readable.t lent.0 m lent.1.0 n) c.result-audited.result
   found =
       past-4-to-7 _ _ _ _ c.read_programs-ps.ensures (not-false _ c.if-not-ps.false) _
-      c.check_rules.ensures c.enum_told-1.given.1 _ _ c.read_trace.ensures _ c.t-1.given.1
-      _ _ c.check_batch.result c.check_batch.ensures _ _ c.m-1.given.1 _ _ c.result-audited.ensures _ refl c.judge-fault.ensures
+      c.check_rules.ensures c.in-Kept.is _ _ c.read_trace.ensures _ c.in-Readable.is
+      _ _ c.check_batch.result c.check_batch.ensures _ _ c.in-Counts.is _ _ c.result-audited.ensures _ refl c.judge-fault.ensures
 
 returns-5 : tie.Need-returns-then-audited-ne0
 returns-5 c =

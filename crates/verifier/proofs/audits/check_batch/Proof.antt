@@ -11,7 +11,7 @@ returns c =
     let a = c.args in (
       λ e. omega arith,
       refused-4 a.programs a.events.now a.t a.report.now _
-          (broken _ _ _ c.row_4.ensures c.line-1.given.1),
+          (broken _ _ _ c.row_4.ensures c.in-Broken.is),
     )
 
 returns-2 : tie.Need-returns-in-BadLine
@@ -19,20 +19,20 @@ returns-2 c =
     let a = c.args in (
       λ e. omega arith,
       refused-5 a.programs a.events.now a.t a.report.now
-          (kept _ _ c.row_4.ensures c.enum_told-1.given.1) _ _ _ c.read_report.ensures _
-          c.line-in-BadLine-1.given.1,
+          (kept _ _ c.row_4.ensures c.in-Kept.is) _ _ _ c.read_report.ensures _
+          c.in-BadLine.is,
     )
 
 check-report-requires : tie.Need-check_report-requires
 check-report-requires c κs =
-    report-few _ _ _ _ c.read_report.ensures _ _ c.m-1.given.1
+    report-few _ _ _ _ c.read_report.ensures _ _ c.in-Counts.is
 
 returns-3 : tie.Need-returns-in-Counts
 returns-3 c =
     let a = c.args in
     past-report a.programs a.events.now a.t a.report.now
-    (kept _ _ c.row_4.ensures c.enum_told-1.given.1) _ _ _ c.read_report.ensures _ _
-    c.m-1.given.1 c.check_report.result c.check_report.ensures
+    (kept _ _ c.row_4.ensures c.in-Kept.is) _ _ _ c.read_report.ensures _ _
+    c.in-Counts.is c.check_report.result c.check_report.ensures
 
 pub check_batch_spec : {M : Type 1} → statement M
 check_batch_spec =

@@ -21,7 +21,7 @@ module _ (r : tie.After-row_7) where
   row-7 : let a = r.args in broken_line r.row_7.result ≡ row7 (batch_of [] (report_of a.ofs.now a.m a.logs.now a.n))
   row-7 =
       let a = r.args in
-      let few = r.pre in
+      let few = r.requires in
       let ofs : min a.m 64 ≡ a.m = omega (arith, few.0) in
       let logs : min a.n 1024 ≡ a.n = omega (arith, few.1) in
       r.row_7.ensures ∙ (λ i. row7 (batch_of [] (report_of a.ofs.now (ofs i) a.logs.now (logs i))))
@@ -31,7 +31,7 @@ returns c =
     let a = c.args in (
       λ e. omega arith,
       λ opening table. at-6 opening table (events_in a.events.now a.t) (report_of a.ofs.now a.m a.logs.now a.n) _
-          (broken _ _ _ c.row_6.ensures c.line-1.given.1),
+          (broken _ _ _ c.row_6.ensures c.in-Broken.is),
     )
 
 returns-2 : tie.Need-returns-in-Broken-row_7
@@ -39,8 +39,8 @@ returns-2 c =
     let a = c.args in (
       λ e. omega arith,
       λ opening table. at_7 opening table (events_in a.events.now a.t) (report_of a.ofs.now a.m a.logs.now a.n)
-          (kept _ _ c.row_6.ensures c.enum_told-1.given.1) _
-          (broken _ _ _ (row-7 c.before.before.before) c.line-in-Broken-row_7-1.given.1),
+          (kept _ _ c.row_6.ensures c.in-Kept.is) _
+          (broken _ _ _ (row-7 c.before) c.in-Broken-row_7.is),
     )
 
 returns-3 : tie.Need-returns
@@ -49,8 +49,8 @@ returns-3 c =
       refl,
       refl,
       record {
-        row6_none = kept _ _ c.row_6.ensures c.enum_told-1.given.1;
-        row7_none = kept _ _ (row-7 c.before.before) c.enum_told-in-Kept-row_7-1.given.1;
+        row6_none = kept _ _ c.row_6.ensures c.in-Kept.is;
+        row7_none = kept _ _ (row-7 c.before) c.in-Kept-row_7.is;
       },
     )
 

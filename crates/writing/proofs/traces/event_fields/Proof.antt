@@ -6,10 +6,10 @@ use Rattle.writing.proofs.traces.event_fields.Statement.{statement}
 use Rattle.writing.proofs.traces.event_fields.Tie as tie
 
 returns : tie.Need-returns-in-Request
-returns c = sym (ap event_fields c.e-1.given.1)
+returns c = sym (ap event_fields c.in-Request.is)
 
 returns-2 : tie.Need-returns-in-Response
-returns-2 c = sym (ap event_fields c.e-in-Response-1.given.1)
+returns-2 c = sym (ap event_fields c.in-Response.is)
 
 pub event_fields_spec : {M : Type 1} → statement M
 event_fields_spec = tie.close (tie.spec

@@ -11,7 +11,7 @@ add-result c = omega (arith, c.numbers_width-k.ensures.1)
 returns : tie.Need-returns-in-Request
 returns c =
     let e = c.args.e in (
-      event-width e _ (request-text e _ _ _ _ c.enum_told-1.given.1) _ c.event_fields.ensures _
+      event-width e _ (request-text e _ _ _ _ c.in-Request.is) _ c.event_fields.ensures _
           c.numbers_width-k.ensures.0,
       omega (arith, c.numbers_width-k.ensures.1),
     )
@@ -22,7 +22,7 @@ add-result-2 c = omega (arith, c.numbers_width-k.ensures.1)
 returns-2 : tie.Need-returns-in-Response
 returns-2 c =
     let e = c.args.e in (
-      event-width e _ (response-text e _ _ _ c.enum_told-in-Response-1.given.1) _ c.event_fields.ensures _
+      event-width e _ (response-text e _ _ _ c.in-Response.is) _ c.event_fields.ensures _
           c.numbers_width-k.ensures.0,
       omega (arith, c.numbers_width-k.ensures.1),
     )

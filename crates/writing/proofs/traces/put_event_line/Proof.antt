@@ -7,13 +7,13 @@ use Rattle.writing.proofs.traces.put_event_line.Tie as tie
 returns : tie.Need-returns-in-Request
 returns c =
     let e = c.args.e in
-    event-put e _ (request-text e _ _ _ _ c.enum_told-1.given.1) _
+    event-put e _ (request-text e _ _ _ _ c.in-Request.is) _
     c.event_fields-f.ensures _ _ _ c.put_line.ensures
 
 returns-2 : tie.Need-returns-in-Response
 returns-2 c =
     let e = c.args.e in
-    event-put e _ (response-text e _ _ _ c.enum_told-in-Response-1.given.1) _
+    event-put e _ (response-text e _ _ _ c.in-Response.is) _
     c.event_fields-f.ensures _ _ _ c.put_line-in-Response.ensures
 
 pub put_event_line_spec : {M : Type 1} → statement M
