@@ -130,6 +130,7 @@ module _ (b : Batch) (f : Formed b) (h : Reported b) where
   not-both : (x y : Node) → GoesFirst b x y → GoesFirst b y x → ⊥
   not-both x y (above {l = l} {m = m} p) (above q) =
       not-around (ln l) (ln m) (later-map ln b.log l m p) (later-map ln b.log m l q)
+  not-both _ _ (over_event {l = l} {e = e}) x5 = elim x5 [ ]
 
   -- ── at most one order is by the rule ──
   one-next : (printed : List Node) (x y : Node) → Next b printed x → Next b printed y → x ≡ y

@@ -16,7 +16,7 @@ use Rattle.text.specs.declared.report.Entry.{Entry}
 use Rattle.text.specs.declared.report.Op.{Op}
 use Rattle.model.specs.Batch.{claims}
 use Rattle.model.specs.Replay.{Claim, unclaimed, by, claim, compare, same_op, Answer, wrong, right}
-use Rattle.model.proofs.Equal.{same_op}
+use Rattle.model.proofs.Equal.{same_op_lem}
 use Rattle.machine.specs.Instance.{machine_of}
 use Rattle.machine.specs.Held.{Objects, ObjectsHeld, AnswersAll}
 use Rattle.machine.specs.Logs.{after, after_all, answers_from}
@@ -62,7 +62,7 @@ compared o l v = cond (same_op l.op (shown o v)) (right v) wrong
 module _ (o : Op) (l : Entry) (c : Content) where
   -- a line that is the operation's, whatever value a read shows in it, answers what the operation does
   same_answer : (v : ℕ) → same_op l.op (shown o v) ≡ true → (apply l.op c).0 ≡ (apply o c).0
-  same_answer v e = ap (λ p. (apply p c).0) (same_op l.op (shown o v) e) ∙ ap (λ z. z.0) (apply_shown o v c)
+  same_answer v e = ap (λ p. (apply p c).0) (same_op_lem l.op (shown o v) e) ∙ ap (λ z. z.0) (apply_shown o v c)
 
   -- so it comes to the same with the answer of either
   compared-alike : compared o l (apply l.op c).0 ≡ compared o l (apply o c).0

@@ -237,17 +237,17 @@ module _ (logs : List ℕ) (n : ℕ) (answers : List ℕ) (rid count : ℕ) (is_
 
     module _ (h : done < most) (m : List ℕ) (x : Act) (e : effect_of l (get_or code (at % 64) no_instr) (at % 64 + 1) ≡ effect m x) where
       -- it has operations left to do, or was answered
-      goes_on : (is_open && eqb k count) ≡ false
-      goes_on = by_bool (is_open && eqb k count) (λ t. absurd (omega (arith, rw t at g.bound))) (λ t. t)
+      goes-on : (is_open && eqb k count) ≡ false
+      goes-on = by_bool (is_open && eqb k count) (λ t. absurd (omega (arith, rw t at g.bound))) (λ t. t)
 
       unbound : most ≡ 256
-      unbound = rw goes_on at g.bound
+      unbound = rw goes-on at g.bound
 
       answered-at : k ≡ count → is_open ≡ false
-      answered-at p = by_bool is_open (λ t. let z = rw (t, eqb_yes p) at goes_on in clash (cc)) (λ t. t)
+      answered-at p = by_bool is_open (λ t. let z = rw (t, eqb_yes p) at goes-on in clash (cc)) (λ t. t)
 
       open-left : is_open ≡ true → 0 < count - k
-      open-left t = by_eq k count (λ p d. let z = rw (t, d) at goes_on in clash (cc)) (λ p d. omega (arith, g.counted))
+      open-left t = by_eq k count (λ p d. let z = rw (t, d) at goes-on in clash (cc)) (λ p d. omega (arith, g.counted))
 
       abbrev marked : List ℕ
       marked = set paths (base + done) (at % 64)
@@ -268,7 +268,7 @@ module _ (logs : List ℕ) (n : ℕ) (answers : List ℕ) (rid count : ℕ) (is_
       pub going-moved : (to : ℕ) → x ≡ Goes to → Going m to (done + 1) marked k most
       going-moved to q = record {
         few = omega (arith, unbound);
-        bound = unbound ∙ sym (rw goes_on);
+        bound = unbound ∙ sym (rw goes-on);
         within = g.within;
         counted = g.counted;
         slower = omega (arith, g.slower);

@@ -12,8 +12,8 @@ returns-2 : tie.Need-returns
 returns-2 c =
     let f = c.fill_four.ensures in
     let h = c.if-out-lt4.false in (
-      record-handed _ _ _ _ _ _ _ _ c.«record».ensures.0 f h,
-      λ e z. handed-accepted _ _ _ _ _ _ _ f c.«record».ensures.1 z,
+      record-handed _ _ _ _ _ _ _ _ c.record-r.ensures.0 f h,
+      λ e z. handed-accepted _ _ _ _ _ _ _ f c.record-r.ensures.1 z,
     )
 
 pub teaselshears_record_spec : {M : Type 1} → statement M

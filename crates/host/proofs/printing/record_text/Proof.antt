@@ -10,20 +10,20 @@ use Rattle.host.proofs.printing.record_text.Statement.{statement}
 use Rattle.host.proofs.printing.record_text.Tie as tie
 
 array-share-prefix-trace : tie.Need-slice_bounds-trace-end
-array-share-prefix-trace c = trace-room c.before.before.«record».ensures.0
+array-share-prefix-trace c = trace-room c.record-r.ensures.0
 
 slice-aggregate-put-recorded : tie.Need-slice_bounds-put_recorded-end
-slice-aggregate-put-recorded c = sym (length-take-le _ _ (array-share-prefix-trace c.before))
+slice-aggregate-put-recorded c = sym (length-take-le _ _ (trace-room c.record-r.ensures.0))
 
 array-share-prefix-report : tie.Need-slice_bounds-report-end
-array-share-prefix-report c = report-room c.before.before.before.«record».ensures.0
+array-share-prefix-report c = report-room c.record-r.ensures.0
 
 slice-aggregate-put-recorded-2 : tie.Need-slice_bounds-put_recorded-end-2
-slice-aggregate-put-recorded-2 c = sym (length-take-le _ _ (array-share-prefix-report c.before))
+slice-aggregate-put-recorded-2 c = sym (length-take-le _ _ (report-room c.record-r.ensures.0))
 
 returns : tie.Need-returns
 returns c =
-    let e = c.«record».ensures.0 in
+    let e = c.record-r.ensures.0 in
     let size = length-replicate {A = ℕ} 65535 0 in (
       printed-put _ _ _ _ _ _ _ size size e _ _ _ c.put_recorded.ensures,
       printed-most _ _ _ _ _ _ _ size size e (search rules) (search rules),

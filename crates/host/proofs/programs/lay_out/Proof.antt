@@ -17,7 +17,7 @@ loop-holds c = record { few = c.requires.0; room = c.requires.1; programs = λ p
 
 loop-again : tie.Need-loop-k-preserved invariant-loop decreases-loop
 loop-again c =
-    program-joins _ _ _ c.loop-k.invariant c.loop-k-test.true _ c.rows_of_lem.ensures
+    program-joins _ _ _ c.loop-k.invariant c.loop-k-test.true _ c.rows_of.ensures
 
 returns : tie.Need-returns invariant-loop decreases-loop
 returns c = programs-are _ _ _ c.loop-k.invariant c.loop-k-test.false

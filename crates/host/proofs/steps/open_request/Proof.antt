@@ -12,7 +12,7 @@ returns c = λ logs registers cells buckets.
       rest =
           memory-as registers cells buckets _
           (locals-as _ _ _ _ _ _ _ c.put_state.ensures c.first_locals-l.ensures)
-          c.Put-of.ensures c.put_event.ensures refl;
+          c.put_of.ensures c.put_event.ensures refl;
     }
 
 pub open_request_spec : {M : Type 1} → statement M

@@ -24,7 +24,7 @@ returns c = λ events.
       rest =
           memory-as _ _ _ _
           (locals-as _ _ _ _ _ _ _ c.put_state.ensures c.resume.ensures)
-          (count-as _ _ _ _ e _ c.Put-of.ensures) refl
+          (count-as _ _ _ _ e _ c.put_of.ensures) refl
           (line_as _ _ _ _ e _ _ _ _ _ c.put_entry.ensures c.shown-op.ensures);
     }
 

@@ -11,7 +11,7 @@ use Rattle.text.proofs.programs.program_line.Tie as tie
 returns : tie.Need-returns-in-At
 returns c =
     told-known program_kinds programs-apart _ _ 1 (omega arith) _ _ _
-    c.in-At.is c.line_at_lem.ensures
+    c.in-At.is c.line_at.ensures
 
 returns-2 : tie.Need-returns-in-At-line_at
 returns-2 c =
@@ -22,7 +22,7 @@ returns-3 : tie.Need-returns
 returns-3 c =
     told-unknown program_kinds _ _ _ (
       missed program_line _ _ _ _ _ c.in_default-line_at.is c.line_at-2.ensures,
-      (missed do_line _ _ _ _ _ c.in_default.is c.line_at_lem.ensures, tt),
+      (missed do_line _ _ _ _ _ c.in_default.is c.line_at.ensures, tt),
     )
 
 pub program_line_spec : {M : Type 1} → statement M

@@ -67,7 +67,7 @@ few l = let r = l.loop-at.invariant in omega (arith, r.few, r.current.few, r.rea
 is-program : (q : tie.In-0 invariant-loop decreases-loop) → Of-kind q.before.before 0
 is-program q =
     is_known program_kinds programs-apart _ _ _ _ q.program_line.ensures _ _ 0 q.in-Known.is
-    q.in-0.keys1
+    q.in-0.is
 
 returns-4 : tie.Need-returns-then-m-ge-PROGRAMS invariant-loop decreases-loop
 returns-4 c =
@@ -98,7 +98,7 @@ loop-again c =
 is-do : (q : tie.In_default-k invariant-loop decreases-loop) → Of-kind q.before.before 1
 is-do q =
     is_last program_kinds programs-apart _ _ _ _ q.program_line.ensures _ _ 1 q.in-Known.is refl
-    (omega (arith, q.in_default-k.rest.1))
+    (omega arith)
 
 returns-5 : tie.Need-returns-then-m-eq0 invariant-loop decreases-loop
 returns-5 c =

@@ -73,7 +73,7 @@ returns-3 c =
 is-of : (q : tie.In-0 invariant-loop decreases-loop) → Of-kind q.before.before 0
 is-of q =
     is_known report_kinds report-apart _ _ _ _ q.report_line.ensures _ _ 0 q.in-Known.is
-    q.in-0.keys1
+    q.in-0.is
 
 returns-4 : tie.Need-returns-then-n-gt0 invariant-loop decreases-loop
 returns-4 c = of-behind c.loop-at.invariant (search rules) (is-of c.before) (search rules)
@@ -91,14 +91,14 @@ loop-less c = omega (arith, (is-of c.before.before.before.before.before.before).
 loop-again : tie.Need-loop-at-preserved-in-0 invariant-loop decreases-loop
 loop-again c =
     of-on c.loop-at.invariant (search rules) (is-of c.before.before.before.before.before.before) (search rules) (search rules) (search rules) _
-    c.of_from.ensures _ c.Put-of.ensures
+    c.of_from.ensures _ c.put_of.ensures
 
 -- ── a `log` line ──
 
 is-log : (q : tie.In_default-k invariant-loop decreases-loop) → Of-kind q.before.before 1
 is-log q =
     is_last report_kinds report-apart _ _ _ _ q.report_line.ensures _ _ 1 q.in-Known.is refl
-    (omega (arith, q.in_default-k.rest.1))
+    (omega arith)
 
 returns-6 : tie.Need-returns-then-not-is_operation invariant-loop decreases-loop
 returns-6 c =

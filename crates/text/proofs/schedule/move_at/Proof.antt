@@ -8,11 +8,11 @@ returns : tie.Need-returns-then-i-ge-MOVES
 returns c = move-out _ _ _ (search rules) (search rules)
 
 returns-2 : tie.Need-returns-then-code-lt-RIDS
-returns-2 c = move-turn _ _ _ _ c.number_of_lem.ensures (search rules)
+returns-2 c = move-turn _ _ _ _ c.number_of-code.ensures (search rules)
 
 returns-3 : tie.Need-returns
 returns-3 c =
-    move-arrive _ _ _ _ c.number_of_lem.ensures (search rules)
+    move-arrive _ _ _ _ c.number_of-code.ensures (search rules)
 
 pub move_at_spec : {M : Type 1} → statement M
 move_at_spec =

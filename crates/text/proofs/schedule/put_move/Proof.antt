@@ -11,7 +11,7 @@ returns : tie.Need-returns-then-i-lt-MOVES
 unfolding with_move
 returns c =
     let a = c.args in
-    (ap (set a.moves.now a.i) c.code_of_lem.ensures, c.put_arrival.ensures)
+    (ap (set a.moves.now a.i) c.code_of.ensures, c.put_arrival.ensures)
 
 returns-2 : tie.Need-returns-else-i-lt-MOVES
 unfolding with_move

@@ -66,7 +66,7 @@ returns-3 c =
 is-arrival : (q : tie.In-0 invariant-loop decreases-loop) → Of-kind q.before.before 0
 is-arrival q =
     is_known schedule_kinds schedule-apart _ _ _ _ q.schedule_line.ensures _ _ 0 q.in-Known.is
-    q.in-0.keys1
+    q.in-0.is
 
 returns-4 : tie.Need-returns-then-m-ge-ARRIVALS invariant-loop decreases-loop
 returns-4 c = arrive-full c.loop-at.invariant (search rules) (search rules) (is-arrival c.before) (search rules)
@@ -93,7 +93,7 @@ loop-again c =
 is-turn : (q : tie.In_default-k invariant-loop decreases-loop) → Of-kind q.before.before 1
 is-turn q =
     is_last schedule_kinds schedule-apart _ _ _ _ q.schedule_line.ensures _ _ 1 q.in-Known.is refl
-    (omega (arith, q.in_default-k.rest.1))
+    (omega arith)
 
 put-move-requires-2 : tie.Need-put_move-requires-in_default-k invariant-loop decreases-loop
 put-move-requires-2 c κs = c.loop-at.invariant.room_moves

@@ -70,7 +70,7 @@ returns-3 c =
 is-request : (q : tie.In-0 invariant-loop decreases-loop) → Of-kind q.before.before 0
 is-request q =
     is_known trace_kinds trace-apart _ _ _ _ q.trace_line.ensures _ _ 0 q.in-Known.is
-    q.in-0.keys1
+    q.in-0.is
 
 returns-4 : tie.Need-returns-then-m-ge-REQUESTS invariant-loop decreases-loop
 returns-4 c = request-full c.loop-at.invariant (search rules) (is-request c.before) (search rules)
@@ -95,7 +95,7 @@ loop-again c =
 is-response : (q : tie.In_default-k invariant-loop decreases-loop) → Of-kind q.before.before 1
 is-response q =
     is_last trace_kinds trace-apart _ _ _ _ q.trace_line.ensures _ _ 1 q.in-Known.is refl
-    (omega (arith, q.in_default-k.rest.1))
+    (omega arith)
 
 returns-5 : tie.Need-returns-then-n-ge-RESPONSES invariant-loop decreases-loop
 returns-5 c = response-full c.loop-at.invariant (search rules) (is-response c.before) (search rules)

@@ -11,7 +11,7 @@ use Rattle.text.proofs.trace.trace_line.Tie as tie
 returns : tie.Need-returns-in-At
 returns c =
     told-known trace_kinds trace-apart _ _ 0 (omega arith) _ _ _
-    c.in-At.is c.line_at_lem.ensures
+    c.in-At.is c.line_at.ensures
 
 returns-2 : tie.Need-returns-in-At-line_at
 returns-2 c =
@@ -21,7 +21,7 @@ returns-2 c =
 returns-3 : tie.Need-returns
 returns-3 c =
     told-unknown trace_kinds _ _ _ (
-      missed request_line _ _ _ _ _ c.in_default.is c.line_at_lem.ensures,
+      missed request_line _ _ _ _ _ c.in_default.is c.line_at.ensures,
       (missed response_line _ _ _ _ _ c.in_default-line_at.is c.line_at-2.ensures, tt),
     )
 
