@@ -1,22 +1,23 @@
-use Rattle.std.proofs.Common.{rules, [], ◌≡◌, ◌≤◌, ℕ, ◌+◌, ◌-◌, ◌*◌, ◌<◌, length, ◌/◌, ◌%◌, Bool, true, false, nat_eq, nat_lt, List, ◌∷◌, ◌++◌, slice_index_or, slice_set, bit_and, bit_or, Fits, w8, w32, w64, Bor, MutBor}
-use Rattle.basics.specs.Firsts.{firsts}
-use Rattle.text.specs.Formats.{most_entries}
-use Rattle.text.specs.Held.{of_at, entry_at}
-use Rattle.model.specs.Claims.{bad8}
-use Rattle.model.specs.FirstBad.{first_bad}
-use Rattle.model.specs.Batch.{claimed}
-use Rattle.machine.specs.Rules.{broken_line}
-use Rattle.replay.specs.Promises.{Linked}
+-- `row_8` meets its contract.
+use Rattle.std.proofs.Common.{sym, ◌∙◌, arith, rules}
+use Rattle.model.proofs.LineScans.{scan-start}
+use Rattle.replay.proofs.Counting.{count-not, count-end, counts-more, counts_all}
 use Rattle.replay.proofs.counts.row_8.Goals as goal
+use Rattle.replay.proofs.counts.row_8.Goals.{else-lines-test, then-lines-test+then-loop-k-test+then-not-is_claimed}
 
--- src/counts.rt:46:5
 pub lines-init : goal.lines-init
-lines-init c = ?
+lines-init c = scan-start
 
--- src/counts.rt:46:5
 pub lines-preserved : goal.lines-preserved
-lines-preserved c = ?
+lines-preserved c =
+    counts_all _ c.lines.invariant (search rules) _ c.of_at-x.ensures
+    (count-end c.loop-k.invariant (search rules))
 
--- src/counts.rt:33:1
 pub returns-then-i-m : goal.returns-then-i-m
-returns-then-i-m c = ?
+returns-then-i-m c =
+    elim c.lines-test.branch [
+    | else-lines-test w ↦ absurd (omega arith)
+    | then-lines-test+then-loop-k-test+then-not-is_claimed w ↦
+        counts-more _ c.lines.invariant w.lines-test.true _ w.of_at-x.ensures
+        (count-not w.loop-k.invariant w.loop-k-test.true (sym w.is_claimed.ensures ∙ w.if-not-is_claimed.true))
+    ]

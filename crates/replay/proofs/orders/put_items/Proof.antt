@@ -44,7 +44,7 @@ put_items_spec =
     (λ c κs. search rules)
     loop-holds
     (λ c. search rules)
-    (λ c κs. (c.before.before.loop.invariant.1, c.before.before.loop.invariant.4))
+    (λ c κs. (c.loop-i.invariant.1, c.loop-i.invariant.4))
     (λ c. search rules)
     (λ c. search rules)
     (λ c. search rules)

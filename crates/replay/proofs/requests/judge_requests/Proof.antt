@@ -24,7 +24,7 @@ module _ (c : tie.After-row_of-row invariant-loop decreases-loop) where
   looked :
       let a = c.args in
       let l = c.loop-k in
-      Step a.t1.table (arrays a.events.now a.t a.ofs.now a.m a.logs.now a.n) a.answers.now
+      Step a.ps.table (arrays a.events.now a.t a.ofs.now a.m a.logs.now a.n) a.answers.now
       c.of_at-x.result l.k l.progs l.lengths l.paths c.replay-end.new.paths
       c.arrival_at-start.result c.done_of.result c.row_of-row.result
   looked =
@@ -90,9 +90,9 @@ judge_requests_spec =
     (λ c. search rules)
     (λ c. search rules)
     row-of-requires
-    (λ c. omega (arith, (at-loop (at-replay c.before)).loop.invariant.few))
+    (λ c. omega (arith, c.loop-k.invariant.few))
     returns
-    (λ c. omega (arith, (at-loop (at-replay c.before)).loop.invariant.few))
+    (λ c. omega (arith, c.loop-k.invariant.few))
     (λ c. search rules)
     loop-again
     returns-2)

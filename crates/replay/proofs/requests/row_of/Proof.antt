@@ -3,6 +3,10 @@ use mathlib.Core.Path.{sym, ap, ◌∙◌}
 use borrow.Author.Rules.{rules}
 use native.Mathlib.Omega.{arith}
 use mathlib.Core.Bool.{cond}
+use Prim.Native.Nat.{◌*◌}
+use lib.ListN.{get_or}
+use Rattle.model.specs.Replay.{silent, ended}
+use Rattle.replay.specs.Promises.{replied_as, path_at}
 use Rattle.replay.proofs.Rows.{row-differs, row-reply, row-path}
 use Rattle.replay.proofs.requests.row_of.Statement.{statement}
 use Rattle.replay.proofs.requests.row_of.Tie as tie
@@ -15,7 +19,10 @@ along-requires : tie.Need-along-requires
 along-requires c κs = let p = c.requires in (p.0, p.1, omega (arith, p.2, p.3))
 
 returns-2 : tie.Need-returns-in-Differs
-returns-2 c = row-differs _ _ _ _ c.in-Differs.is _ _
+returns-2 c =
+    let a = c.args in
+    row-differs (get_or a.progs.now a.k 0) a.paths.now (a.k * 256) a.end c.in-Differs.is (replied_as a.reply)
+    (ended silent (path_at a.progs.now a.lengths.now a.paths.now a.f))
 
 returns-3 : tie.Need-returns-then-along
 returns-3 c =

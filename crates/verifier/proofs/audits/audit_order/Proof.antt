@@ -41,11 +41,11 @@ module _ (c : tie.After-result-audited) where
 
   found :
       let texts = c.args in
-      let lent = c.check_batch.last.1.1.1.1 in
+      let lent = c.check_batch.new in
       let m = c.in-Counts.m in
       let n = c.in-Counts.n in
       Found texts.programs.now texts.trace.now texts.report.now
-      (arrays c.read_trace.new.events c.in-Readable.t lent.0 m lent.1.0 n) c.result-audited.result
+      (arrays c.read_trace.new.events c.in-Readable.t lent.ofs m lent.logs n) c.result-audited.result
   found =
       past-4-to-7 _ _ _ _ c.read_programs-ps.ensures (not-false _ c.if-not-ps.false) _
       c.check_rules.ensures c.in-Kept.is _ _ c.read_trace.ensures _ c.in-Readable.is
