@@ -9,7 +9,6 @@ use Rattle.cells.proofs.stores.look.Tie as tie
 
 -- the place that `find` gives
 module _ (p : tie.After-find-p) where
-
   is-place : {used : ℕ} {contents : Contents} →
       let a = p.args in
       Holds a.rows.now a.buckets.now used contents → p.find-p.result ≡ place_of a.rows.now used a.object a.key

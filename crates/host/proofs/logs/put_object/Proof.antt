@@ -22,7 +22,6 @@ loop-holds c = (omega arith, none_yet _ _ _ _ _ c.requires)
 
 -- a line of the object has room
 module _ (p : tie.Then-l-object invariant-loop decreases-loop) where
-
   own :
       let a = p.args in
       (entry_at a.logs.now p.loop-i.i).op.object ≡ a.object
@@ -36,12 +35,11 @@ add_at : tie.Need-overflow_add-at invariant-loop decreases-loop
 add_at c = omega (arith, fits c.before.before)
 
 loop-again : tie.Need-loop-i-preserved-then-l-object invariant-loop decreases-loop
-loop-again c =
-    (
-      omega arith,
-      own-joins _ _ _ _ _ _ _ c.loop-i.invariant.1 (fits c.before.before) (own c.before.before) _
-          (c.put_entry.ensures ∙ ap (with_entry c.loop-i.out c.loop-i.at) c.entry_at-l.ensures),
-    )
+loop-again c = (
+  omega arith,
+  own-joins _ _ _ _ _ _ _ c.loop-i.invariant.1 (fits c.before.before) (own c.before.before) _
+      (c.put_entry.ensures ∙ ap (with_entry c.loop-i.out c.loop-i.at) c.entry_at-l.ensures),
+)
 
 loop-again-2 : tie.Need-loop-i-preserved invariant-loop decreases-loop
 loop-again-2 c =

@@ -10,7 +10,6 @@ use Rattle.host.proofs.outputs.write_texts.Tie as tie
 
 -- the way back from where the trace was measured, and the texts
 module _ (w : tie.After-trace_width) where
-
   abbrev texts : Texts
   texts =
       let a = w.args in

@@ -15,7 +15,6 @@ use Rattle.host.proofs.printing.put_recorded.Tie as tie
 
 -- what is written, where it is to go, and how many bytes are asked for
 module _ (v : tie.After-verdict_width) where
-
   abbrev text : List ℕ
   text = let a = v.args in verdict_text a.verdict a.line ++ (a.trace.now ++ a.report.now)
 
@@ -32,7 +31,6 @@ module _ (v : tie.After-verdict_width) where
 
 -- the verdict is written
 module _ (c : tie.After-written-at) where
-
   room : length (text c.before.before.before.before.before.before.before) ≤ length (buffer c.before.before.before.before.before.before.before)
   room =
       omega (
@@ -52,7 +50,6 @@ module _ (c : tie.After-written-at) where
 
 -- and the trace
 module _ (c : tie.After-written-at-2) where
-
   abbrev at2 : ℕ
   at2 = c.written-at.result + c.written-at-2.result
 
@@ -66,7 +63,6 @@ module _ (c : tie.After-written-at-2) where
 
 -- and the report
 module _ (c : tie.After-written) where
-
   three :
       let ys = c.put_bytes-r.new.out in
       Writing (text c.before.before.before.before.before.before.before.before.before.before.before.before.before.before.before.before.before) (buffer c.before.before.before.before.before.before.before.before.before.before.before.before.before.before.before.before.before) (lent (out2 c.before.before.before.before.before) (at2 c.before.before.before.before.before) ys) (at2 c.before.before.before.before.before + c.written.result) []

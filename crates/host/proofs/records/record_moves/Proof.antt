@@ -20,12 +20,11 @@ returns c =
     _ c.in-Breaks.is) c.refused.ensures
 
 by-object-requires : tie.Need-by_object-k-requires
-by-object-requires c κs =
-    (
-      few-lines at_start _ _ _ _ 0 0 _ _ _ (c.run_moves.ensures at_start (objects-start _ (length-replicate {A = ℕ} 8192 0)))
-          _ c.in-Ends.is,
-      (length-replicate {A = ℕ} 6144 0),
-    )
+by-object-requires c κs = (
+  few-lines at_start _ _ _ _ 0 0 _ _ _ (c.run_moves.ensures at_start (objects-start _ (length-replicate {A = ℕ} 8192 0)))
+      _ c.in-Ends.is,
+  (length-replicate {A = ℕ} 6144 0),
+)
 
 returns-2 : tie.Need-returns-in-Ends
 returns-2 c =

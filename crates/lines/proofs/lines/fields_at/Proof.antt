@@ -16,7 +16,6 @@ decreases-loop s at n most v₀ i₀ p₀ v i p = n - i
 
 -- the way back from where a number was told, and that it stands there
 module _ (r : tie.In-Ended invariant-loop decreases-loop) where
-
   spelled : Ended r.in-Ended.x r.in-Ended.e ≡ spelled_at r.args.s.now r.loop-i.p
   spelled = sym r.in-Ended.is ∙ r.number_at.ensures
 

@@ -16,7 +16,6 @@ fill-word-requires c κs =
 
 -- the way back from where the word was written
 module _ (r : tie.After-fill_word-at) where
-
   -- the numbers are left to write
   word-written :
       let a = r.args in
@@ -47,7 +46,6 @@ fill-numbers-requires c κs =
 
 -- and from where the numbers were written
 module _ (h : tie.After-fill_numbers-k) where
-
   -- nothing is left to write
   numbers-written :
       let a = h.args in

@@ -23,7 +23,6 @@ part-fill-number-start c = omega (arith, writing-room c.loop-i.invariant.3)
 
 -- where a number is about to be written
 module _ (c : tie.In-loop-i invariant-loop decreases-loop) where
-
   -- it, what stands behind it and the rest are left to write
   number-left :
       let f = c.args.f in
@@ -43,7 +42,6 @@ fill-number-requires c κs =
 
 -- where it was written
 module _ (r : tie.After-fill_number-k invariant-loop decreases-loop) where
-
   -- what stands behind it and the rest are left
   number-written :
       let a = r.args in

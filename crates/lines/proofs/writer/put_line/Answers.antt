@@ -24,8 +24,8 @@ fill_line-requires-clause-v_in_bounds c =
     let l = line-length c.args.w.now (take g.n g.v) in
     let m = numbers-most g.v g.n (λ i. search rules) in
     elim c.if-room-lt126.branch [
-    | then-room-lt126+else-room-widths w ↦ omega (arith, l, w.widths.ensures.value)
-    | else-room-lt126 w ↦ omega (arith, l, m)
+      | then-room-lt126+else-room-widths w ↦ omega (arith, l, w.widths.ensures.value)
+      | else-room-lt126 w ↦ omega (arith, l, m)
     ]
 
 pub returns : goal.returns
@@ -36,7 +36,7 @@ returns c =
     let m = numbers-most g.v g.n (λ i. search rules) in
     let room : length (line_text c.args.w.now (take g.n g.v)) ≤ length c.args.out.now =
     elim c.if-room-lt126.branch [
-    | then-room-lt126+else-room-widths w ↦ omega (arith, l, w.widths.ensures.value)
-    | else-room-lt126 w ↦ omega (arith, l, m)
+      | then-room-lt126+else-room-widths w ↦ omega (arith, l, w.widths.ensures.value)
+      | else-room-lt126 w ↦ omega (arith, l, m)
     ] in
     rw (← c.clamped-g.ensures.v_value) (put-fits _ _ _ _ room f.ensures.value f.ensures.out_after)

@@ -19,13 +19,12 @@ loop-holds : tie.Need-loop-i-init invariant-loop decreases-loop
 loop-holds c = (c.requires.0, omega arith, linked-start _ _ c.requires.0 _ _ c.requires.1 c.requires.2)
 
 loop-again : tie.Need-loop-i-preserved invariant-loop decreases-loop
-loop-again c =
-    (
-      search rules,
-      omega arith,
-      linked-less _ _ c.loop-i.invariant.0 c.loop-i.i _ _ _ _ c.loop-i-test.true c.loop-i.invariant.1
-          c.entry_at-x.ensures c.bucket-b.ensures c.loop-i.invariant.2,
-    )
+loop-again c = (
+  search rules,
+  omega arith,
+  linked-less _ _ c.loop-i.invariant.0 c.loop-i.i _ _ _ _ c.loop-i-test.true c.loop-i.invariant.1
+      c.entry_at-x.ensures c.bucket-b.ensures c.loop-i.invariant.2,
+)
 
 returns : tie.Need-returns invariant-loop decreases-loop
 returns c =

@@ -16,8 +16,8 @@ lines-preserved c =
 pub returns-then-i-m : goal.returns-then-i-m
 returns-then-i-m c =
     elim c.lines-test.branch [
-    | else-lines-test w ↦ absurd (omega arith)
-    | then-lines-test+then-loop-k-test+then-not-is_claimed w ↦
-        counts-more _ c.lines.invariant w.lines-test.true _ w.of_at-x.ensures
-        (count-not w.loop-k.invariant w.loop-k-test.true (sym w.is_claimed.ensures ∙ w.if-not-is_claimed.true))
+      | else-lines-test w ↦ absurd (omega arith)
+      | then-lines-test+then-loop-k-test+then-not-is_claimed w ↦
+          counts-more _ c.lines.invariant w.lines-test.true _ w.of_at-x.ensures
+          (count-not w.loop-k.invariant w.loop-k-test.true (sym w.is_claimed.ensures ∙ w.if-not-is_claimed.true))
     ]

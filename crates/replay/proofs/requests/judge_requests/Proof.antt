@@ -20,7 +20,6 @@ loop-holds c = judging-start _ _ _ _ _ _ c.requires.0 refl refl refl
 
 -- and what was looked up on it, up to its row
 module _ (c : tie.After-row_of-row invariant-loop decreases-loop) where
-
   looked :
       let a = c.args in
       let l = c.loop-k in

@@ -21,13 +21,12 @@ loop-holds : tie.Need-loop-i-init invariant-loop decreases-loop
 loop-holds c = (search rules, search rules, λ j h. absurd (omega arith))
 
 loop-again : tie.Need-loop-i-preserved invariant-loop decreases-loop
-loop-again c =
-    (
-      search rules,
-      search rules,
-      packed_more _ c.loop-i.column c.args.n c.loop-i.i _ _
-          c.entry_at-l.ensures c.pack-p.ensures (search rules) c.loop-i.invariant.2,
-    )
+loop-again c = (
+  search rules,
+  search rules,
+  packed_more _ c.loop-i.column c.args.n c.loop-i.i _ _
+      c.entry_at-l.ensures c.pack-p.ensures (search rules) c.loop-i.invariant.2,
+)
 
 returns : tie.Need-returns invariant-loop decreases-loop
 returns c = record { few = c.requires.0; claim = λ i h. c.loop-i.invariant.2 i (omega arith) }

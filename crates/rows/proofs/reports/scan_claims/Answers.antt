@@ -23,12 +23,12 @@ pub returns-then-i-n : goal.returns-then-i-n
 returns-then-i-n c =
     let s = c.lines.invariant in
     elim c.lines-test.branch [
-    | else-lines-test w ↦ absurd (omega arith)
-    | then-lines-test+then-outside w ↦
-        claims-beyond _ _ _ _ s w.lines-test.true _ w.entry_at-l.ensures (sym w.outside.ensures ∙ w.if-outside.true)
-    | then-lines-test+else-outside+then-loop-j-test+then-claims_at w ↦
-        claims-twice _ _ _ _ s w.lines-test.true _ w.entry_at-l.ensures
-        (pass-hit w.loop-j.invariant _ refl w.loop-j-test.true (sym w.claims_at.ensures ∙ w.if-claims_at.true))
+      | else-lines-test w ↦ absurd (omega arith)
+      | then-lines-test+then-outside w ↦
+          claims-beyond _ _ _ _ s w.lines-test.true _ w.entry_at-l.ensures (sym w.outside.ensures ∙ w.if-outside.true)
+      | then-lines-test+else-outside+then-loop-j-test+then-claims_at w ↦
+          claims-twice _ _ _ _ s w.lines-test.true _ w.entry_at-l.ensures
+          (pass-hit w.loop-j.invariant _ refl w.loop-j-test.true (sym w.claims_at.ensures ∙ w.if-claims_at.true))
     ]
 
 pub returns-else-i-n : goal.returns-else-i-n

@@ -20,10 +20,10 @@ pub returns-then-i-t : goal.returns-then-i-t
 returns-then-i-t c =
     let s = c.lines.invariant in
     elim c.lines-test.branch [
-    | else-lines-test w ↦ absurd (omega arith)
-    | then-lines-test+then-not-may_stand w ↦
-        stands-not _ s w.lines-test.true _ w.event_at-e.ensures (sym w.may_stand.ensures ∙ w.if-not-may_stand.true)
-    | then-lines-test+else-not-may_stand+then-loop-j-test+then-like w ↦
-        stands-twice _ s w.lines-test.true _ w.event_at-e.ensures
-        (pass-hit w.loop-j.invariant _ w.event_at.ensures w.loop-j-test.true (sym w.like.ensures ∙ w.if-like.true))
+      | else-lines-test w ↦ absurd (omega arith)
+      | then-lines-test+then-not-may_stand w ↦
+          stands-not _ s w.lines-test.true _ w.event_at-e.ensures (sym w.may_stand.ensures ∙ w.if-not-may_stand.true)
+      | then-lines-test+else-not-may_stand+then-loop-j-test+then-like w ↦
+          stands-twice _ s w.lines-test.true _ w.event_at-e.ensures
+          (pass-hit w.loop-j.invariant _ w.event_at.ensures w.loop-j-test.true (sym w.like.ensures ∙ w.if-like.true))
     ]

@@ -48,7 +48,6 @@ returns-2 c =
 
 -- the way back from a line of one of the kinds
 module _ (p : tie.In-Known invariant-loop decreases-loop) where
-
   -- the line is of kind j
   abbrev Of-kind : ℕ → Type 0
   Of-kind j =

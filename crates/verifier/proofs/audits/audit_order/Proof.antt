@@ -38,7 +38,6 @@ returns-4 c =
 
 -- behind rows 8 to 12
 module _ (c : tie.After-result-audited) where
-
   found :
       let texts = c.args in
       let lent = c.check_batch.new in

@@ -16,7 +16,6 @@ use Rattle.verifier.proofs.audits.check_report.Tie as tie
 
 -- the way back from where row 7 was looked at
 module _ (r : tie.After-row_7) where
-
   -- there is room for all lines, so that it was looked at in all of them
   row-7 : let a = r.args in broken_line r.row_7.result ≡ row7 (batch_of [] (report_of a.ofs.now a.m a.logs.now a.n))
   row-7 =
@@ -44,15 +43,14 @@ returns-2 c =
     )
 
 returns-3 : tie.Need-returns
-returns-3 c =
-    (
-      refl,
-      refl,
-      record {
-        row6_none = kept _ _ c.row_6.ensures c.in-Kept.is;
-        row7_none = kept _ _ (row-7 c.before) c.in-Kept-row_7.is;
-      },
-    )
+returns-3 c = (
+  refl,
+  refl,
+  record {
+    row6_none = kept _ _ c.row_6.ensures c.in-Kept.is;
+    row7_none = kept _ _ (row-7 c.before) c.in-Kept-row_7.is;
+  },
+)
 
 pub check_report_spec : {M : Type 1} → statement M
 check_report_spec =

@@ -14,7 +14,6 @@ use Rattle.verifier.proofs.printing.put_printed.Tie as tie
 
 -- from where the first piece was written
 module _ (c : tie.After-written-at) where
-
   one :
       let a = c.args in
       let lines = items_text a.items.now (min a.n 1152) in
@@ -34,7 +33,6 @@ module _ (c : tie.After-written-at) where
 
 -- and from where the second was
 module _ (c : tie.After-written) where
-
   two :
       let a = c.args in
       Writing (audited_text a.a ++ items_text a.items.now (min a.n 1152)) a.out.now
