@@ -22,14 +22,13 @@ loop-holds : tie.Need-loop-i-init invariant-loop decreases-loop
 loop-holds c = (omega arith, λ cs h g. answered-none _ cs _ _ h)
 
 loop-again : tie.Need-loop-i-preserved invariant-loop decreases-loop
-loop-again c =
-    (
-      omega arith,
-      λ cs held g.
-          let a = c.loop-i.invariant.1 cs held g in
-          answered-more _ _ cs _ c.loop-i.i _ _ a _ _ _ c.op_at.ensures
-          (c.perform-r.ensures _ a.held (answered-room _ _ cs _ c.loop-i.i _ _ a (omega arith))),
-    )
+loop-again c = (
+  omega arith,
+  λ cs held g.
+      let a = c.loop-i.invariant.1 cs held g in
+      answered-more _ _ cs _ c.loop-i.i _ _ a _ _ _ c.op_at.ensures
+      (c.perform-r.ensures _ a.held (answered-room _ _ cs _ c.loop-i.i _ _ a (omega arith))),
+)
 
 returns : tie.Need-returns invariant-loop decreases-loop
 returns c = λ cs held g.
