@@ -1,5 +1,5 @@
 -- `fill_number` meets its contract: the digits of v are those of v / 100 and two more.
-use Rattle.std.proofs.Common.{ℕ, ◌≡◌, ◌+◌, ◌<◌, [], length, sym, refl, ap, arith, length-set, rules}
+use Rattle.std.proofs.Common.{ℕ, ◌≡◌, ◌+◌, [], length, sym, refl, ap, arith, length-set, rules}
 use Rattle.lines.specs.Decimal.{decimal}
 use Rattle.lines.proofs.Decimals.{decimal-one, decimal-small, decimal-two, decimal-tens, decimal-two-more, decimal-hundreds}
 use Rattle.lines.proofs.Puts.{front-none, front-next, front-two}
