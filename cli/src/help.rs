@@ -16,7 +16,7 @@ The audit of registry batches, and the reference host. Verdict and order are tho
   help COMMAND               says more of a command
 
   -h, --help                 this text, or that of a command; asked for alone
-  -V, --version              the version, the prover's sum of the library, and the kit that proved it; asked for alone
+  -V, --version              the version, the sum of the library's sources, and the kit that proved it; asked for alone
 
 Options stand anywhere before '--', behind which everything is an argument. One that is a name in the working folder is
 not taken (status 2): a shell may have put it there, as in 'audit *'.

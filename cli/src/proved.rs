@@ -13,7 +13,7 @@ pub const STACK: usize = 4 << 20;
 const ROOM: usize = 1 << 20;
 
 pub const VERSION: &str = env!("CARGO_PKG_VERSION");
-/// The prover's sum over the sources and proofs of the library and all below it, and the kit that proved them.
+/// The sum over the sources and proofs of the library and all below it, and the kit that proved them.
 pub const LIBRARY: &str = env!("LIBRARY_SUM");
 pub const KIT: &str = env!("LIBRARY_KIT");
 

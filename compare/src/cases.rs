@@ -4,7 +4,7 @@ use crate::audit::Audited;
 use crate::damage::{damage_batch, damage_schedule};
 use crate::random::{self, Random, Run};
 use crate::texts::{read_report, write_report, BatchTexts, TEXT_LIMIT};
-use crate::worked;
+use crate::worked::{self, Schedule};
 
 /// The seed of the cases that are the same in every comparison.
 pub const FIXED_SEED: u64 = 1;
@@ -51,16 +51,16 @@ fn worked_cases() -> impl Iterator<Item = Case> {
         expected_order: case.order,
         expected_record: None,
     });
-    let schedules = worked_schedules().map(|case| Case {
+    let schedules = of_schedules(worked::schedules()).map(|case| Case {
         name: folder_name(&case.name),
         ..case
     });
     batches.chain(schedules)
 }
 
-/// The worked schedules; trace and report of their batches are empty.
-pub fn worked_schedules() -> impl Iterator<Item = Case> {
-    worked::schedules().into_iter().map(|case| Case {
+/// Worked schedules as cases; trace and report of their batches are empty.
+pub fn of_schedules(schedules: Vec<Schedule>) -> impl Iterator<Item = Case> {
+    schedules.into_iter().map(|case| Case {
         name: case.name.into(),
         batch: worked::batch(&case.programs, "", ""),
         schedule: case.schedule.into(),

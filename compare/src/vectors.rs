@@ -71,7 +71,7 @@ fn packed(vectors: &[Vector]) -> Vec<(PathBuf, Vec<u8>)> {
 }
 
 fn batch_vectors() -> Vec<Vector> {
-    let worked = worked::batches().into_iter();
+    let worked = worked::stored_batches().into_iter();
     let worked = worked.map(|case| batch_vector(case.name, &case.batch));
     let random = random_of_each(
         |case| audit_of(&case.batch).verdict,
@@ -114,7 +114,7 @@ fn batch_vector(name: &str, batch: &BatchTexts) -> Vector {
 }
 
 fn schedule_vectors() -> Vec<Vector> {
-    let worked = cases::worked_schedules().chain(case_c_in_rooms());
+    let worked = cases::of_schedules(worked::stored_schedules()).chain(case_c_in_rooms());
     let random = random_of_each(
         |case| record_of(case).verdict,
         |case| case.batch.programs.len() + case.schedule.len(),

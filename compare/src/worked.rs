@@ -30,9 +30,9 @@ const REPORT_OF_C: &str = "of=1,0,2\nof=2,1,2\n\
                            log=0,1,1,7,0,1\nlog=0,2,2,6,0,1\nlog=1,2,1,7,0,1\nlog=1,1,2,6,0,1\n";
 const ORDER_OF_C: &str = "event=1\nop=1,1\nevent=2\nop=2,1\nop=2,2\nop=1,2\nevent=3\nevent=4\n";
 
-pub use schedules::schedules;
 #[cfg(test)]
 pub use schedules::{in_turns, FILLING};
+pub use schedules::{schedules, stored_schedules, Schedule};
 
 pub struct Case {
     pub name: &'static str,
@@ -64,8 +64,15 @@ pub fn case_c() -> BatchTexts {
     batch(PROGRAMS, TRACE_OF_C, REPORT_OF_C)
 }
 
-/// Every batch of this file.
+/// Every batch of these files.
 pub fn batches() -> Vec<Case> {
+    let mut cases = stored_batches();
+    cases.extend(two_rows::two_rows());
+    cases
+}
+
+/// Those that crate `vectors` stores too.
+pub fn stored_batches() -> Vec<Case> {
     let mut cases = worked();
     cases.extend(rows());
     cases.extend(readings());
@@ -76,7 +83,6 @@ pub fn batches() -> Vec<Case> {
     cases.extend(open::open());
     cases.extend(comparisons::comparisons());
     cases.extend(held::held());
-    cases.extend(two_rows::two_rows());
     cases
 }
 
@@ -206,6 +212,12 @@ fn readings() -> Vec<Case> {
     let writes_0 = "program=0\ndo=7,0,0,0\ndo=0,0,0,0\n";
     let answered = "request=1,0,0,0\nresponse=1,0,0\n";
     vec![
+        refused(
+            "unreadable below a broken rule",
+            batch("program=0\ndo=0,8,0,0\nx\n", "", ""),
+            1,
+            3,
+        ),
         refused("program unknown", trace("request=1,2,0,0\n"), 4, 1),
         refused(
             "rid used twice, though answered",

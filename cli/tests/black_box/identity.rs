@@ -1,9 +1,9 @@
 //! `explain`, and what the program says of itself: version, library and kit, the same wherever they stand.
 
-use crate::harness::{skip, tests, Done};
+use crate::harness::{tests, Done};
 use crate::json::{only_object, text};
 use crate::room::{example, read, root, Room};
-use crate::run::{audit_all, program, Ended, Run, PROGRAM};
+use crate::run::{audit_all, needs, program, Ended, Run, PROGRAM};
 use std::collections::BTreeSet;
 use std::process::Command;
 
@@ -100,12 +100,12 @@ fn version_in_three_lines(_: &Room) -> Done {
     Ok(())
 }
 
+/// The sum is that of the sources as they stand, counted anew.
 fn version_names_the_library_that_was_proved(_: &Room) -> Done {
-    let stamp = root().join("target/stamp/export");
-    if !stamp.exists() {
-        return skip("target/stamp/export is not there");
-    }
-    assert_eq!(library(), String::from_utf8(read(stamp)).unwrap().trim());
+    needs("rt")?;
+    let mut tool = Command::new(root().join("tools/library"));
+    let sum = tool.arg("--sum").end().is(0).text();
+    assert_eq!(library(), sum.trim());
     Ok(())
 }
 

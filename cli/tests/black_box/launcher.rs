@@ -145,15 +145,15 @@ fn the_launcher_whatever_the_environment(room: &Room) -> Done {
     Ok(())
 }
 
-/// A copy of what the launcher needs of the repository, with what was proved and built there, so that it is not done again,
-/// and with these files beside. Other tests may call rt meanwhile: it changes nothing here where all is up to date.
-fn copy(room: &Room, beside: &[&str]) -> Result<PathBuf, Skipped> {
+/// A copy of what the launcher needs of the repository, with what was built there, so that it is not done again. What the kit
+/// keeps of the proofs stays behind, since it is large; other tests may call rt meanwhile, where all is up to date.
+fn copy(room: &Room) -> Result<PathBuf, Skipped> {
     needs("rt")?;
     let to = room.folder("above/copy");
-    let script = r#"cd "$1" && to=$2 && shift 2 && cp -a --parents tools cli crates crates.txt \
-        target/stamp target/staticlib target/cli/release/teaselshears* "$@" "$to""#;
+    let script = r#"cd "$1" && tar -cf - --exclude='crates/*/out' tools cli crates crates.txt \
+        target/staticlib target/cli/release/teaselshears* | tar -xf - -C "$2""#;
     let mut copied = shell(script);
-    copied.arg(root()).arg(&to).args(beside).end().is(0);
+    copied.arg(root()).arg(&to).end().is(0);
     Ok(to)
 }
 
@@ -191,7 +191,7 @@ fn make_older(path: &Path) {
 }
 
 fn a_source_with_an_older_time(room: &Room) -> Done {
-    let copy = copy(room, &[])?;
+    let copy = copy(room)?;
     check_runs(&copy, "teaselshears");
     make_older(&edit(&copy, "edited"));
     check_runs(&copy, "edited");
@@ -207,7 +207,7 @@ fn a_source_with_an_older_time(room: &Room) -> Done {
 
 /// Two calls at once both run what the sources say.
 fn a_program_written_over(room: &Room) -> Done {
-    let copy = copy(room, &[])?;
+    let copy = copy(room)?;
     check_runs(&copy, "teaselshears");
     let program = copy.join("target/cli/release/teaselshears");
     fs::write(&program, "#!/bin/sh\necho usage: another\n").unwrap();
@@ -223,7 +223,7 @@ fn a_program_written_over(room: &Room) -> Done {
 /// What cargo and rustup would heed in the folders above the program, and in its own: another place for what is built, a compiler
 /// that is not there, and a workspace that it is no part of.
 fn files_above_the_repository(room: &Room) -> Done {
-    let copy = copy(room, &[])?;
+    let copy = copy(room)?;
     check_runs(&copy, "teaselshears");
     room.folder("above/.cargo");
     let config = "[build]\ntarget = \"x86_64-unknown-linux-gnu\"\nrustc-wrapper = \"false\"\n";
@@ -239,9 +239,12 @@ fn files_above_the_repository(room: &Room) -> Done {
     Ok(())
 }
 
-/// The library is made anew where it is not what was built.
+/// The library is made anew where it is not what was built. The libraries below it are taken as they were proved.
 fn a_library_written_over(room: &Room) -> Done {
-    let copy = copy(room, &["target/rlib"])?;
+    let copy = copy(room)?;
+    let script = r#"cd "$1" && for built in crates/*/out/rlib; do
+        ! [ -d "$built" ] || cp -a --parents "$built" "$2" || exit; done"#;
+    shell(script).arg(root()).arg(&copy).end().is(0);
     let library = copy.join("target/staticlib/libexport.a");
     let own = read(&library);
     fs::write(&library, "!<arch>\n").unwrap();
@@ -251,16 +254,37 @@ fn a_library_written_over(room: &Room) -> Done {
     Ok(())
 }
 
+/// The tool with two crates of its own, which nobody has proved: in these words, that is.
+fn two_crates(room: &Room) -> PathBuf {
+    for (folder, library) in [
+        ("low", "pub fn least(a: u64, b: u64) -> u64 {\n    if a < b { a } else { b }\n}"),
+        (
+            "export",
+            "#[unsafe(no_mangle)]\npub extern \"C\" fn least(a: u64) -> u64 {\n    low::least(a, 7)\n}",
+        ),
+    ] {
+        room.folder(&format!("crates/{folder}/src"));
+        let head = format!("// {}, {:?}", room.path("").display(), SystemTime::now());
+        let text = format!("{head}\n#![tactic(auto)]\n\n{library}\n");
+        room.file(&format!("crates/{folder}/src/lib.rt"), text);
+    }
+    room.file("crates.txt", "low:\nexport staticlib: low\n");
+    room.folder("tools");
+    let tool = room.path("tools/library");
+    fs::copy(root().join("tools/library"), &tool).unwrap();
+    tool
+}
+
 /// While a crate is proved it is told, in lines or in the one line of a terminal; and nothing where all is up to date.
 fn how_far_the_proofs_are(room: &Room) -> Done {
-    // Small crates, which are then proved again over the one below them.
-    let copy = copy(room, &["target/rlib/basics.rlib"])?;
-    let unproved = |name: &str| fs::remove_file(copy.join("target/stamp").join(name)).unwrap();
-    let tool = copy.join("tools/library");
-    unproved("bits");
-    let said = Command::new(&tool).end_within(LIMIT).is(0).sentence();
-    let words = ["crate bits proved in ", " of ", " s so far"];
-    assert!(words.iter().all(|word| said.contains(word)), "{said}");
+    needs("rt")?;
+    let tool = two_crates(room);
+    let said = Command::new(&tool).end_within(LIMIT).is(0).said();
+    let words = ["crate low proved in ", " s: 1 of 2, ", " s so far"];
+    assert!(words.iter().all(|word| said[0].contains(word)), "{said:?}");
+    let words = ["crate export proved in ", " s: 2 of 2, ", " s so far"];
+    assert!(words.iter().all(|word| said[1].contains(word)), "{said:?}");
+    assert_eq!(said.len(), 2, "{said:?}");
     let quiet = Command::new(&tool).end_within(LIMIT);
     assert!(quiet.is(0).stderr.is_empty(), "{quiet}");
     if !is_there("script") {
@@ -273,10 +297,12 @@ fn how_far_the_proofs_are(room: &Room) -> Done {
         script.end_within(LIMIT).is(0).text()
     };
     assert_eq!(on_terminal(), "");
-    // One that takes longer than a second, after which the line is written.
-    unproved("cells");
+    // It takes longer than a second, after which the line is written.
+    let source = room.path("crates/export/src/lib.rt");
+    let text = String::from_utf8(read(&source)).unwrap();
+    fs::write(&source, text.replace("a, 7", "a, 8")).unwrap();
     let text = on_terminal();
-    assert!(text.contains(" s; next cells\x1b[K"), "{text:?}");
+    assert!(text.contains(" s; next export\x1b[K"), "{text:?}");
     assert!(!text.contains('\n'), "one line: {text:?}");
     assert!(text.ends_with("\r\x1b[K"), "taken away again: {text:?}");
     Ok(())

@@ -30,8 +30,14 @@ fn case(
 
 /// Every schedule of this file.
 pub fn schedules() -> Vec<Schedule> {
-    let mut cases = rows();
+    let mut cases = stored_schedules();
     cases.extend(two_rows());
+    cases
+}
+
+/// Those that crate `vectors` stores too.
+pub fn stored_schedules() -> Vec<Schedule> {
+    let mut cases = rows();
     cases.extend(turns());
     cases.extend(limits());
     cases.extend(open());
@@ -56,9 +62,16 @@ fn rows() -> Vec<Schedule> {
     vec![
         case("schedule of C", PROGRAMS, schedule_of_c(), 0, 0),
         case("nothing scheduled", "", "", 0, 0),
-        case("host row 1", "do=1,2\n", "", 1, 1),
-        case("host row 2", NO_LOCAL, "", 2, 2),
+        case("host row 1", "do=1,2\n", "turn=1,\n", 1, 1),
+        case("host row 2", NO_LOCAL, "turn=1,\n", 2, 2),
         case("host row 13", PROGRAMS, "turn=1,\n", 13, 1),
+        case(
+            "unreadable below a fault",
+            PROGRAMS,
+            "turn=1\nturn=1,\n",
+            13,
+            2,
+        ),
         case("host row 14", PROGRAMS, "turn=1\n", 14, 1),
         case("rid arrives twice", PROGRAMS, ARRIVE.repeat(2), 14, 2),
         case("arrival of no program", PROGRAMS, "arrive=1,2,0,0\n", 14, 1),
@@ -80,7 +93,7 @@ fn rows() -> Vec<Schedule> {
     ]
 }
 
-/// Two rows at once: the one that comes first in the order is given.
+/// A row by itself, and two at once: the one that comes first in the order is given.
 fn two_rows() -> Vec<Schedule> {
     let unreadable = format!("{NO_LOCAL}do=1\n");
     let no_arrival = schedule_of_c() + "turn=3\n";
@@ -90,12 +103,11 @@ fn two_rows() -> Vec<Schedule> {
         ..case
     };
     vec![
+        case("host row 1 alone", "do=1,2\n", "", 1, 1),
+        case("host row 2 alone", NO_LOCAL, "", 2, 2),
         case("host rows 1 and 2", &unreadable, "", 1, 3),
-        case("host rows 1 and 13", "do=1,2\n", "turn=1,\n", 1, 1),
-        case("host rows 2 and 13", NO_LOCAL, "turn=1,\n", 2, 2),
         case("host rows 1 and 14", "do=1,2\n", "turn=1\n", 1, 1),
         case("host rows 2 and 14", NO_LOCAL, "turn=1\n", 2, 2),
-        case("host rows 13 and 14", PROGRAMS, "turn=1\nturn=1,\n", 13, 2),
         short(case(
             "host rows 2 and 16",
             &empty_program,
