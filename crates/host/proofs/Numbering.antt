@@ -11,8 +11,7 @@ use Rattle.model.specs.Checks.{fault_or, bad_line, contents}
 use Rattle.model.specs.Host.{Result, fault, made, Host, empty, Stepped, broken, on, stepped, go_on, run_from, recorded, and_then}
 use Rattle.model.specs.Machine.{Machine}
 use Rattle.machine.specs.Instance.{machine_of}
-use Rattle.machine.specs.Objects.{Content, at_start}
-use Rattle.machine.specs.Processes.{limit}
+use Rattle.machine.specs.Objects.{at_start}
 use Rattle.machine.specs.Rules.{row2}
 use Rattle.host.specs.Recorded.{row16, batch_recorded, texts_of, record_of}
 

@@ -19,7 +19,6 @@ use Rattle.text.specs.declared.kinds.Lines.TheVariants.{Readable, Unreadable}
 use Rattle.text.specs.declared.kinds.Lines.{Lines}
 use Rattle.text.specs.declared.programs.Program.{Program}
 use Rattle.text.specs.declared.programs.Programs.{Programs}
-use Rattle.text.specs.declared.report.ReportLines.TheVariants.{Counts}
 use Rattle.text.specs.declared.trace.Event.{Event}
 use Rattle.text.proofs.ProgramsReading.{table-read}
 use Rattle.model.specs.Checks.{Verdict, verdict, first_fault, bad_line, contents}
