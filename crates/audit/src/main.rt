@@ -24,24 +24,29 @@ fn fill(programs: &[u8], trace: &[u8], report: &[u8], out: &mut [u8; ROOM]) -> u
     written(audit_text(programs, trace, report, out))
 }
 
-fn print(programs: &[u8], trace: &[u8], report: &[u8]) {
+fn print(rt: &HostRuntime, programs: &[u8], trace: &[u8], report: &[u8]) {
     let mut out = [0u8; ROOM];
     let n = fill(programs, trace, report, &mut out);
-    write_front(&out, n);
+    write_front(rt, &out, n);
 }
 
-fn main() {
+fn main(rt: HostRuntime) {
     let mut programs = [0u8; TEXT_ROOM];
     let mut trace = [0u8; TEXT_ROOM];
     let mut report = [0u8; TEXT_ROOM];
-    let Got::Bytes(p) = read_file(b"programs.txt", &mut programs) else {
+    let Got::Bytes(p) = read_file(&rt, b"programs.txt", &mut programs) else {
         return;
     };
-    let Got::Bytes(t) = read_file(b"trace.txt", &mut trace) else {
+    let Got::Bytes(t) = read_file(&rt, b"trace.txt", &mut trace) else {
         return;
     };
-    let Got::Bytes(r) = read_file(b"report.txt", &mut report) else {
+    let Got::Bytes(r) = read_file(&rt, b"report.txt", &mut report) else {
         return;
     };
-    print(front(&programs, p), front(&trace, t), front(&report, r));
+    print(
+        &rt,
+        front(&programs, p),
+        front(&trace, t),
+        front(&report, r),
+    );
 }

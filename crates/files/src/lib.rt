@@ -3,10 +3,12 @@
 #![tactic(auto)]
 
 ghost use Rattle.std.specs.Prelude.{◌≡◌, min, length, take};
-ghost use Rattle.io.specs.Counts.{IsPrefixLen};
 ghost use Rattle.files.specs.Fits.{Fits};
+ghost use Rattle.files.specs.Prefix.{IsPrefixLen};
 
-use libc::STDOUT_FILENO;
+use std::fs;
+use std::io::{Error, ErrorKind, Read};
+use std::rt::Files;
 
 // What reading a file gives: how many bytes there are in the buffer; or it could not be read.
 #[derive(Drop)]
@@ -32,19 +34,30 @@ pub fn front(buf: &[u8], n: usize) -> &[u8]
     &buf[..end]
 }
 
+// A line on standard error: what failed, and why. Where that cannot be written either, there is nowhere left to say so.
+fn say(rt: &impl Eprint, what: &str, why: Error) {
+    let _ = eprintln!(rt; "{what}: {why}");
+}
+
+// Says why a file could not be read.
+fn failed(rt: &impl Eprint, path: &str, why: Error) -> Got
+    ensures { result ≡ Got.Failed }
+{
+    say(rt, path, why);
+    Got::Failed
+}
+
 // One read behind the first `done` bytes: how many bytes there are then.
-fn read_more(fd: i32, buf: &mut [u8], done: usize) -> Got
+fn read_more(rt: &impl Eprint, path: &str, file: &mut impl Read, buf: &mut [u8], done: usize) -> Got
     ensures { Fits result buf.new }
 {
     if buf.len() < done {
-        return Got::Failed;
+        return failed(rt, path, Error::other("its buffer is too short"));
     }
-    let rest = &mut buf[done..];
-    let got = libc::read(fd, rest);
-    if got < 0 {
-        return Got::Failed;
+    match file.read(&mut buf[done..]) {
+        Ok(n) => Got::Bytes(done + n),
+        Err(e) => failed(rt, path, e),
     }
-    Got::Bytes(done + io::count(got, rest))
 }
 
 // The most bytes of a buffer that is lent.
@@ -54,13 +67,13 @@ const TURNS: usize = BUFFER_BYTES + 1;
 
 // Reads until the buffer is full, the file ends or a read fails. A proved loop has to end, so it counts its turns down from a number that
 // no run uses up: each turn but the last reads a byte, and no buffer that is lent has more than BUFFER_BYTES.
-fn read_all(fd: i32, buf: &mut [u8]) -> Got
+fn read_all(rt: &impl Eprint, path: &str, file: &mut impl Read, buf: &mut [u8]) -> Got
     ensures { Fits result buf.new }
 {
     let mut done: usize = 0;
     let mut turns: usize = TURNS;
     while 0 < turns {
-        let Got::Bytes(now) = read_more(fd, buf, done) else {
+        let Got::Bytes(now) = read_more(rt, path, file, buf, done) else {
             return Got::Failed;
         };
         if now == done {
@@ -69,38 +82,32 @@ fn read_all(fd: i32, buf: &mut [u8]) -> Got
         done = now;
         turns -= 1;
     }
-    Got::Failed
+    failed(rt, path, Error::other("too many reads"))
 }
 
 // Reads the front of a file into a buffer. For a text it has a byte more than a text may have, so that one that is too long is seen as
-// such.
-pub fn read_file(path: &[u8], buf: &mut [u8]) -> Got
+// such. A name that is not UTF-8 cannot be opened, which is said too.
+pub fn read_file(rt: &(impl Files + Eprint), path: &[u8], buf: &mut [u8]) -> Got
     ensures { Fits result buf.new }
 {
-    let fd = os::open_read(path);
-    if fd < 0 {
-        if os::errno() == libc::ENOENT {
-            return Got::Bytes(0);
-        }
-        os::fail(path);
-        return Got::Failed;
+    let Ok(path) = str::from_utf8(path) else {
+        return failed(rt, "a file's name", Error::from(ErrorKind::InvalidFilename));
+    };
+    match fs::open(rt, path) {
+        Ok(mut file) => read_all(rt, path, &mut file, buf),
+        Err(e) if e.kind() == ErrorKind::NotFound => Got::Bytes(0),
+        Err(e) => failed(rt, path, e),
     }
-    let got = read_all(fd, buf);
-    if let Got::Failed = got {
-        os::fail(path);
-    }
-    libc::close(fd);
-    got
 }
 
-// Writes the first n bytes of a buffer, or all, and says where that fails. The result is how many bytes were to be written; what a system
-// call did is beyond a contract.
-pub fn write_front(buf: &[u8], n: usize) -> usize
+// Writes the first n bytes of a buffer, or all, to standard output, and says where that fails. The result is how many bytes were to be
+// written; how many the system took is beyond a contract.
+pub fn write_front(rt: &(impl Print + Eprint), buf: &[u8], n: usize) -> usize
     ensures { result ≡ min n (length buf.now) }
 {
     let end = within(n, buf);
-    if !io::write_all(STDOUT_FILENO, &buf[..end]) {
-        os::fail(b"standard output");
+    if let Err(e) = rt.write_all(&buf[..end]) {
+        say(rt, "standard output", e);
     }
     end
 }

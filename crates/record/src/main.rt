@@ -25,20 +25,20 @@ fn fill(programs: &[u8], schedule: &[u8], out: &mut [u8; ROOM]) -> usize
     written(record_text(programs, schedule, out))
 }
 
-fn print(programs: &[u8], schedule: &[u8]) {
+fn print(rt: &HostRuntime, programs: &[u8], schedule: &[u8]) {
     let mut out = [0u8; ROOM];
     let n = fill(programs, schedule, &mut out);
-    write_front(&out, n);
+    write_front(rt, &out, n);
 }
 
-fn main() {
+fn main(rt: HostRuntime) {
     let mut programs = [0u8; TEXT_ROOM];
     let mut schedule = [0u8; TEXT_ROOM];
-    let Got::Bytes(p) = read_file(b"programs.txt", &mut programs) else {
+    let Got::Bytes(p) = read_file(&rt, b"programs.txt", &mut programs) else {
         return;
     };
-    let Got::Bytes(s) = read_file(b"schedule.txt", &mut schedule) else {
+    let Got::Bytes(s) = read_file(&rt, b"schedule.txt", &mut schedule) else {
         return;
     };
-    print(front(&programs, p), front(&schedule, s));
+    print(&rt, front(&programs, p), front(&schedule, s));
 }

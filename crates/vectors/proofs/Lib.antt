@@ -1,3 +1,2 @@
--- The laws: where a header ends (Bounds), the sum of a buffer (Sums).
-pub mod Bounds
+-- The laws: the sum of a buffer (Sums).
 pub mod Sums

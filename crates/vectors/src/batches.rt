@@ -26,7 +26,7 @@ fn found(programs: &[u8], trace: &[u8], report: &[u8]) -> Fields {
 }
 
 // Audits the batch at the front of s and prints the result: how many bytes it takes, or 0 where there is none.
-pub(crate) fn run_batch(s: &[u8]) -> usize
+pub(crate) fn run_batch(rt: &HostRuntime, s: &[u8]) -> usize
     ensures { result ≤ length s.now }
 {
     let mut v = [0u64; 6];
@@ -37,6 +37,6 @@ pub(crate) fn run_batch(s: &[u8]) -> usize
     let report = end_of(s, trace, v[1] as usize);
     let end = end_of(s, report, v[2] as usize);
     let f = found(&s[start..trace], &s[trace..report], &s[report..end]);
-    print_line(&s[0..name], f);
+    print_line(rt, &s[0..name], f);
     end
 }

@@ -3,7 +3,6 @@ ghost use Rattle.std.specs.Prelude.{◌≡◌, ◌+◌, min, length};
 ghost use Rattle.vectors.specs.Headers.{EndsWithin};
 
 use files::write_front;
-use libc::STDERR_FILENO;
 use lines::{Fields, Place, Put, line_at, put_line};
 use verifier::TEXT_ROOM;
 
@@ -34,7 +33,7 @@ pub(crate) fn end_of(s: &[u8], start: usize, n: usize) -> usize
 pub(crate) fn read_header(s: &[u8], n: usize, v: &mut [u64; 6]) -> Header
     ensures { EndsWithin (length s.now) result }
 {
-    let equals = bytes::scan::find(s, 0, s.len(), b'=');
+    let equals = s.iter().position(|b| *b == b'=').unwrap_or(s.len());
     let name = end_of(s, equals, 1);
     let most = [MOST_LENGTH; 6];
     match line_at(s, 0, &s[0..name], n, &most, v) {
@@ -44,11 +43,11 @@ pub(crate) fn read_header(s: &[u8], n: usize, v: &mut [u64; 6]) -> Header
 }
 
 // Prints a line: a name and numbers.
-pub(crate) fn print_line(name: &[u8], f: Fields) {
+pub(crate) fn print_line(rt: &HostRuntime, name: &[u8], f: Fields) {
     let mut out = [0u8; 256];
     let Put::Wrote(n) = put_line(&mut out, name, f) else {
-        io::write_all(STDERR_FILENO, b"a name is too long\n");
+        let _ = eprintln!(rt; "a name is too long");
         return;
     };
-    write_front(&out, n);
+    write_front(rt, &out, n);
 }

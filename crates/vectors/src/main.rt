@@ -15,27 +15,26 @@ ghost use Rattle.std.specs.Prelude.{◌≤◌, length};
 
 use batches::run_batch;
 use files::{BUFFER_BYTES, Got, front, read_file};
-use libc::STDERR_FILENO;
 use schedules::run_schedule;
 
 // Runs the vector at the front of s: how many bytes it takes, or 0 where it cannot be read.
-fn run_vector(s: &[u8]) -> usize
+fn run_vector(rt: &HostRuntime, s: &[u8]) -> usize
     ensures { result ≤ length s.now }
 {
-    let used = run_batch(s);
+    let used = run_batch(rt, s);
     if used != 0 {
         return used;
     }
-    run_schedule(s)
+    run_schedule(rt, s)
 }
 
 // Runs the vectors of s, one after the other.
-fn run_vectors(s: &[u8]) {
+fn run_vectors(rt: &HostRuntime, s: &[u8]) {
     let mut rest = s;
     while 0 < rest.len() {
-        let used = run_vector(rest);
+        let used = run_vector(rt, rest);
         if used == 0 {
-            io::write_all(STDERR_FILENO, b"a header is unreadable\n");
+            let _ = eprintln!(rt; "a header is unreadable");
             return;
         }
         rest = &rest[used..];
@@ -43,16 +42,16 @@ fn run_vectors(s: &[u8]) {
 }
 
 // Runs the vectors of a file. Where it is missing or cannot be read, lines are missing from what is printed.
-fn run_file(path: &[u8]) {
+fn run_file(rt: &HostRuntime, path: &[u8]) {
     let mut buf = [0u8; BUFFER_BYTES];
-    let Got::Bytes(n) = read_file(path, &mut buf) else {
+    let Got::Bytes(n) = read_file(rt, path, &mut buf) else {
         return;
     };
-    run_vectors(front(&buf, n));
+    run_vectors(rt, front(&buf, n));
 }
 
-fn main() {
-    run_file(b"vectors-1.txt");
-    run_file(b"vectors-2.txt");
-    run_file(b"vectors-3.txt");
+fn main(rt: HostRuntime) {
+    run_file(&rt, b"vectors-1.txt");
+    run_file(&rt, b"vectors-2.txt");
+    run_file(&rt, b"vectors-3.txt");
 }

@@ -27,7 +27,7 @@ fn run_lent(
 
 // Runs the schedule at the front of s and prints the result: how many bytes it takes, or 0 where there is none. The buffers hold bytes
 // before that no text has.
-pub(crate) fn run_schedule(s: &[u8]) -> usize
+pub(crate) fn run_schedule(rt: &HostRuntime, s: &[u8]) -> usize
     ensures { result ≤ length s.now }
 {
     let mut v = [0u64; 6];
@@ -59,6 +59,6 @@ pub(crate) fn run_schedule(s: &[u8]) -> usize
             sum(&report),
         ],
     };
-    print_line(&s[0..name], f);
+    print_line(rt, &s[0..name], f);
     end
 }
