@@ -319,3 +319,6 @@ module _ (s : List ℕ) (at e : ℕ) (i : e ≡ at + length (field (drop at s)))
       (λ (p : n < length (drop at s)). λ (g : get_or (drop at s) n 0 ≡ 44).
       comma-not s e c (omega (arith, p, length-drop at s)) (ap (λ (k : ℕ). get_or s k 0) i ∙ sym (get_or-drop at s n 0) ∙ g)) in
       (r.0, omega (arith, r.1))
+
+-- what a number from a place on is, case by case
+pub ruleset number_cases = (spelled_out, spelled_none, spelled-digits, spelled-zero-out, spelled-zero-stop, spelled-lead)

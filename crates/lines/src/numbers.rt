@@ -81,6 +81,7 @@ fn digits_at(s: &[u8], at: usize, first: u64) -> Spelled
 }
 
 // The number from at on, up to a comma, a line feed or the end.
+#[tactic(auto, using(crate::proofs::Spelling::number_cases))]
 pub(crate) fn number_at(s: &[u8], at: usize) -> Spelled
     ensures { result ≡ spelled_at s.now at }
 {

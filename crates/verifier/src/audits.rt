@@ -179,7 +179,8 @@ pub fn audit_order(programs: &[u8], trace: &[u8], report: &[u8], out: &mut [u64]
                         0,
                     );
                     let audited = result(fault, m, n);
-                    if audited.verdict != 0 {
+                    let refused = audited.verdict != 0;
+                    if refused {
                         return no_order(audited);
                     }
                     let order = put_numbers(&events, t, &ofs, m, &logs, n, out);

@@ -4,7 +4,6 @@ use Rattle.lines.specs.LineText.{numbers_text, line_text}
 use Rattle.lines.proofs.LineTexts.{line-length, numbers-most}
 use Rattle.lines.proofs.Puts.{put-short, put-fits}
 use Rattle.lines.proofs.writer.put_line.Goals as goal
-use Rattle.lines.proofs.writer.put_line.Goals.{then-room-lt126+else-room-widths, else-room-lt126}
 
 pub returns-then-out-w : goal.returns-then-out-w
 returns-then-out-w c =
@@ -23,10 +22,7 @@ fill_line-requires-clause-v_in_bounds c =
     let g = c.clamped-g.result in
     let l = line-length c.args.w.now (take g.n g.v) in
     let m = numbers-most g.v g.n (λ i. search rules) in
-    elim c.if-room-lt126.branch [
-      | then-room-lt126+else-room-widths w ↦ omega (arith, l, w.widths.ensures.value)
-      | else-room-lt126 w ↦ omega (arith, l, m)
-    ]
+    grind (arith, l, m)
 
 pub returns : goal.returns
 returns c =
@@ -35,8 +31,5 @@ returns c =
     let l = line-length c.args.w.now (take g.n g.v) in
     let m = numbers-most g.v g.n (λ i. search rules) in
     let room : length (line_text c.args.w.now (take g.n g.v)) ≤ length c.args.out.now =
-    elim c.if-room-lt126.branch [
-      | then-room-lt126+else-room-widths w ↦ omega (arith, l, w.widths.ensures.value)
-      | else-room-lt126 w ↦ omega (arith, l, m)
-    ] in
+    grind (arith, l, m) in
     rw (← c.clamped-g.ensures.v_value) (put-fits _ _ _ _ room f.ensures.value f.ensures.out_after)

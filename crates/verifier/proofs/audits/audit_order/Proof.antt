@@ -50,10 +50,10 @@ module _ (c : tie.After-result-audited) where
       c.check_rules.ensures c.in-Kept.is _ _ c.read_trace.ensures _ c.in-Readable.is
       _ _ c.check_batch.result c.check_batch.ensures _ _ c.in-Counts.is _ _ c.result-audited.ensures _ refl c.judge-fault.ensures
 
-returns-5 : tie.Need-returns-then-audited-ne0
+returns-5 : tie.Need-returns-then-refused
 returns-5 c =
     let f = found c.before.before.before in
-    ordered-none _ _ _ _ _ _ c.no_order-then-audited-ne0.ensures f.meaning c.if-audited-ne0.true
+    ordered-none _ _ _ _ _ _ c.no_order-then-refused.ensures f.meaning c.if-refused.true
 
 put-numbers-requires : tie.Need-put_numbers-order-requires
 put-numbers-requires c κs =
@@ -63,7 +63,7 @@ put-numbers-requires c κs =
 returns-6 : tie.Need-returns-in-Counts
 returns-6 c =
     let f = found c.before.before.before.before.before.before.before.before.before in
-    ordered _ _ _ _ _ _ f.meaning (c.put_numbers-order.ensures _ (f.order c.if-audited-ne0.false))
+    ordered _ _ _ _ _ _ f.meaning (c.put_numbers-order.ensures _ (f.order c.if-refused.false))
 
 pub audit_order_spec : {M : Type 1} → statement M
 audit_order_spec =
