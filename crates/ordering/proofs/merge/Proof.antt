@@ -22,10 +22,6 @@ loop-holds c = (
       (linked_of _ _ _ _ (search rules) (search rules) c.link.ensures.0 c.link.ensures.1),
 )
 
--- the way back from where the least head was looked for
-
--- and from the loop
-
 returns : tie.Need-returns-then-l-ge-LANES invariant-loop decreases-loop
 returns c =
     merging-stop _ _ _ _ _ _ _ _ _ _ _ _

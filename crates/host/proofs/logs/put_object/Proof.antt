@@ -18,8 +18,6 @@ decreases-loop logs n object out₀ at at₀ i₀ out at' i = n - i
 loop-holds : tie.Need-loop-i-init invariant-loop decreases-loop
 loop-holds c = (omega arith, none_yet _ _ _ _ _ c.requires)
 
--- the way back from where a line was read
-
 -- a line of the object has room
 module _ (p : tie.Then-l-object invariant-loop decreases-loop) where
   own :

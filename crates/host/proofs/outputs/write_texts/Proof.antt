@@ -8,7 +8,7 @@ use borrow.Author.Rules.{rules}
 use Rattle.host.proofs.outputs.write_texts.Statement.{statement}
 use Rattle.host.proofs.outputs.write_texts.Tie as tie
 
--- the way back from where the trace was measured, and the texts
+-- where the trace was measured, and the texts
 module _ (w : tie.After-trace_width) where
   abbrev texts : Texts
   texts =

@@ -12,8 +12,6 @@ returns c = none-there _ _ c.if-slot-eq0.true ∙ ap (standing_in _) c.slot_of-s
 returns-2 : tie.Need-returns-then-slot-gt-REQUESTS
 returns-2 c = none-so-high _ _ c.if-slot-eq0.false c.if-slot-gt-REQUESTS.true ∙ ap (standing_in _) c.slot_of-slot.ensures
 
--- the way back from where the request's row was looked at
-
 returns-3 : tie.Need-returns-then-is_open
 returns-3 c =
     open-there _ _ c.if-slot-eq0.false c.if-slot-gt-REQUESTS.false (sym c.is_open.ensures ∙ c.if-is_open.true)

@@ -70,8 +70,6 @@ turn-requires c κs =
     turn-room (c.loop-i.invariant p.opening p.held) c.loop-i-test.true (sym c.in-Turn.is ∙ c.move_at.ensures)
     (sym c.in-Open.is ∙ c.standing_of.ensures)
 
--- of an open request
-
 -- the number of a line has room
 add-t45 : tie.Need-overflow_add-result-in_default-turn invariant-loop decreases-loop
 add-t45 c =

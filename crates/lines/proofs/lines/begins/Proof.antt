@@ -14,8 +14,6 @@ decreases-loop s w i₀ i = length w - i
 returns : tie.Need-returns-then-s-i invariant-loop decreases-loop
 returns c = let l = c.loop-i in sym (l.invariant.1 ∙ prefix-short _ _ l.i (search rules) (search rules))
 
--- the way back from where two bytes are compared
-
 returns-2 : tie.Need-returns-then-s-i-2 invariant-loop decreases-loop
 returns-2 c =
     let l = c.loop-i in

@@ -14,7 +14,7 @@ invariant-loop s at n most v₀ i₀ p₀ v i p = Filling s most at n v i p
 abbrev decreases-loop : tie.decreases-loop-i
 decreases-loop s at n most v₀ i₀ p₀ v i p = n - i
 
--- the way back from where a number was told, and that it stands there
+-- where a number was told, and that it stands there
 module _ (r : tie.In-Ended invariant-loop decreases-loop) where
   spelled : Ended r.in-Ended.x r.in-Ended.e ≡ spelled_at r.args.s.now r.loop-i.p
   spelled = sym r.in-Ended.is ∙ r.number_at.ensures

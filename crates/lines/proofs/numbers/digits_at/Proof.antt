@@ -11,8 +11,6 @@ invariant-loop s at first v₀ i₀ v i = (i ≤ length s) × (spelling first s 
 abbrev decreases-loop : tie.decreases-loop-i
 decreases-loop s at first v₀ i₀ v i = length s - i
 
--- the way back from where a digit was pushed
-
 loop-again : tie.Need-loop-i-preserved invariant-loop decreases-loop
 loop-again c =
     let l = c.loop-i in (

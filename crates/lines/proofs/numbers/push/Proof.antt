@@ -17,8 +17,6 @@ returns-3 c =
     let d = c.digit-d in
     push-above _ _ d.result (d.ensures.0 (search rules)) (search rules) (omega arith)
 
--- the way back from where the value is neither small nor too large
-
 returns-4 : tie.Need-returns-then-d-gt5
 returns-4 c =
     let d = c.digit-d in

@@ -14,7 +14,7 @@ fill-word-requires c κs =
     let vs = take a.f.n a.f.v in
     omega (arith, c.requires.1, line-length w vs)
 
--- the way back from where the word was written
+-- where the word was written
 module _ (r : tie.After-fill_word-at) where
   -- the numbers are left to write
   word-written :

@@ -20,8 +20,6 @@ loop-holds c =
     walk_start _ _ c.requires.0 c.args.heads.now c.args.afters.now _ _ c.requires.1 _
     (c.index_of-j.ensures ∙ ap (λ b. get_or c.args.heads.now b 0) c.bucket.ensures)
 
--- the way back from the loop
-
 returns : tie.Need-returns-then-is_claim invariant-loop decreases-loop
 returns c =
     walk-hit _ _ c.requires.0 c.args.heads.now c.args.afters.now _ _ c.requires.1 _ c.loop-j.invariant

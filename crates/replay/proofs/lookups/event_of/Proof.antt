@@ -19,7 +19,7 @@ decreases-loop events t rid response i₀ i = t - i
 loop-holds : tie.Need-loop-i-init invariant-loop decreases-loop
 loop-holds c = (omega arith, λ k h _. absurd (omega arith))
 
--- the way back from where a line was tested, and what the test says of it
+-- where a line was tested, and what the test says of it
 module _ (q : tie.After-is_of invariant-loop decreases-loop) where
   tested : let a = q.args in is_of a.response a.rid (event_at a.events.now q.loop-i.i) ≡ q.is_of.result
   tested =

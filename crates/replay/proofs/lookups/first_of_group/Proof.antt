@@ -20,8 +20,6 @@ decreases-loop ofs m k group i₀ i = m - i
 loop-holds : tie.Need-loop-i-init invariant-loop decreases-loop
 loop-holds c = (omega arith, λ k h _. absurd (omega arith))
 
--- the way back from where a line was read
-
 returns : tie.Need-returns-then-x-group invariant-loop decreases-loop
 returns c =
     rw (sym c.of_at-own.ensures)

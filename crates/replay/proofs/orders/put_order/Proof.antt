@@ -7,8 +7,6 @@ use Rattle.replay.proofs.Items.{merge-returns, merge-orders}
 use Rattle.replay.proofs.orders.put_order.Statement.{statement}
 use Rattle.replay.proofs.orders.put_order.Tie as tie
 
--- the way back from where the items were put
-
 slice-aggregate-merge : tie.Need-slice_bounds-merge-end
 slice-aggregate-merge c =
     let p = c.requires in

@@ -37,8 +37,6 @@ returns-2 c = c.loop-j.invariant
 among-requires-2 : tie.Need-among-requires-2 invariant-loop decreases-loop
 among-requires-2 c κs = omega (arith, c.requires)
 
--- the way back from where the last block was looked at
-
 returns-3 : tie.Need-returns-then-among-2 invariant-loop decreases-loop
 returns-3 c = c.loop-j.invariant
 

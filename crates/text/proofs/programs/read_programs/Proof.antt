@@ -42,7 +42,7 @@ returns-2 c =
     held-refused r (line-unknown r.reading programs-apart (search rules) _ _ c.program_line.ensures
     c.in_default.is) _ c.unreadable-in_default.ensures
 
--- the way back from a line of one of the kinds
+-- at a line of one of the kinds
 module _ (p : tie.In-Known invariant-loop decreases-loop) where
   -- the line is of kind j
   abbrev Of-kind : ℕ → Type 0

@@ -53,7 +53,7 @@ returns-2 c =
     let r = c.loop-at.invariant in
     held-refused r (line-unknown r.reading report-apart (search rules) _ _ c.report_line.ensures c.in_default.is)
 
--- the way back from a line of one of the kinds
+-- at a line of one of the kinds
 module _ (p : tie.In-Known invariant-loop decreases-loop) where
   -- the line is of kind j
   abbrev Of-kind : ℕ → Type 0

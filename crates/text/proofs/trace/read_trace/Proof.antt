@@ -50,7 +50,7 @@ returns-2 c =
     let r = c.loop-at.invariant in
     held-refused r (line-unknown r.reading trace-apart (search rules) _ _ c.trace_line.ensures c.in_default.is)
 
--- the way back from a line of one of the kinds
+-- at a line of one of the kinds
 module _ (p : tie.In-Known invariant-loop decreases-loop) where
   -- the line is of kind j
   abbrev Of-kind : ℕ → Type 0
@@ -73,10 +73,6 @@ is-request q =
 
 returns-4 : tie.Need-returns-then-m-ge-REQUESTS invariant-loop decreases-loop
 returns-4 c = request-full c.loop-at.invariant (search rules) (is-request c.before) (search rules)
-
-add-put-event : tie.Need-overflow_add-m invariant-loop decreases-loop
-add-put-event c =
-    omega (arith, few c.before.before.before.before.before.before.before.before)
 
 add-m : tie.Need-overflow_add-m invariant-loop decreases-loop
 add-m c = omega (arith, few c.before.before.before.before.before.before.before.before)

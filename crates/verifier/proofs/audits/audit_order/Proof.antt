@@ -27,8 +27,6 @@ returns-3 c =
     c.check_rules.ensures c.in-Kept.is _ _ c.read_trace.ensures _
     c.in-Unreadable.is)
 
--- and from where the report was checked
-
 returns-4 : tie.Need-returns-in-Refused
 returns-4 c =
     let told = at-4-to-7 _ _ _ _ c.read_programs-ps.ensures (not-false _ c.if-not-ps.false) _

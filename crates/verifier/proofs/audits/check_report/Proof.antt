@@ -14,7 +14,7 @@ use borrow.Author.Rules.{rules}
 use Rattle.verifier.proofs.audits.check_report.Statement.{statement}
 use Rattle.verifier.proofs.audits.check_report.Tie as tie
 
--- the way back from where row 7 was looked at
+-- where row 7 was looked at
 module _ (r : tie.After-row_7) where
   -- there is room for all lines, so that it was looked at in all of them
   row-7 : let a = r.args in broken_line r.row_7.result ≡ row7 (batch_of [] (report_of a.ofs.now a.m a.logs.now a.n))

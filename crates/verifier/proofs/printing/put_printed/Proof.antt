@@ -12,7 +12,7 @@ use borrow.Author.Rules.{rules}
 use Rattle.verifier.proofs.printing.put_printed.Statement.{statement}
 use Rattle.verifier.proofs.printing.put_printed.Tie as tie
 
--- from where the first piece was written
+-- where the first piece was written
 module _ (c : tie.After-written-at) where
   one :
       let a = c.args in
