@@ -4,10 +4,9 @@
 
 ghost use Rattle.std.specs.Prelude.{◌≡◌, length};
 ghost use Rattle.lines.specs.Put.{front};
-ghost use Rattle.verifier.specs.Printed.{printed_text, most_printed};
+ghost use Rattle.verifier.specs.Printed.{printed_text};
 
-use files::{Got, front, read_file, write_front};
-use lines::written;
+use files::{Unread, front, read_file, write_front};
 use verifier::{PRINTED, TEXT_ROOM, audit_text};
 
 // As much as is ever printed (`most_printed`).
@@ -15,13 +14,11 @@ const ROOM: usize = PRINTED;
 
 // What is printed, to the front of out, and how long it is. It has room whatever the texts are.
 fn fill(programs: &[u8], trace: &[u8], report: &[u8], out: &mut [u8; ROOM]) -> usize
-    requires { length out.old ≡ most_printed }
     ensures count { result ≡ length (printed_text programs.now trace.now report.now) }
     ensures bytes { out.new ≡ front
         (printed_text programs.now trace.now report.now) out.old }
-    ensures room { length out.new ≡ length out.old }
 {
-    written(audit_text(programs, trace, report, out))
+    audit_text(programs, trace, report, out).unwrap_or(0)
 }
 
 fn print(rt: &HostRuntime, programs: &[u8], trace: &[u8], report: &[u8]) {
@@ -30,23 +27,19 @@ fn print(rt: &HostRuntime, programs: &[u8], trace: &[u8], report: &[u8]) {
     write_front(rt, &out, n);
 }
 
-fn main(rt: HostRuntime) {
+// Reads the three texts and prints the audit of them. What could not be read is said where it is read.
+fn run(rt: &HostRuntime) -> Result<(), Unread> {
     let mut programs = [0u8; TEXT_ROOM];
     let mut trace = [0u8; TEXT_ROOM];
     let mut report = [0u8; TEXT_ROOM];
-    let Got::Bytes(p) = read_file(&rt, b"programs.txt", &mut programs) else {
-        return;
-    };
-    let Got::Bytes(t) = read_file(&rt, b"trace.txt", &mut trace) else {
-        return;
-    };
-    let Got::Bytes(r) = read_file(&rt, b"report.txt", &mut report) else {
-        return;
-    };
-    print(
-        &rt,
-        front(&programs, p),
-        front(&trace, t),
-        front(&report, r),
-    );
+    let p = read_file(rt, b"programs.txt", &mut programs)?;
+    let t = read_file(rt, b"trace.txt", &mut trace)?;
+    let r = read_file(rt, b"report.txt", &mut report)?;
+    print(rt, front(&programs, p), front(&trace, t), front(&report, r));
+    Ok(())
+}
+
+// The status is 0 where a text could not be read too.
+fn main(rt: HostRuntime) {
+    let _ = run(&rt);
 }

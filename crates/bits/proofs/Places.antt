@@ -4,11 +4,11 @@ use mathlib.Core.Path.{◌≡◌, ap, ◌∙◌}
 use mathlib.Core.Bool.{cond}
 use native.Mathlib.Omega.{arith}
 use native.Mathlib.Nat.{div-eq_of_lt, pow-suc}
-use native.Mathlib.Numerals.{one-add}
 use lib.Dec.{ltb}
-use lib.Pow.{high, shr_mod, shr-shr, pow-add}
-use lib.Bits.{bit_and, bit_or, and_step, or_step, and_shr, or_shr}
+use lib.Pow.{high, shr_mod, pow-add}
+use lib.Bits.{bit_and, bit_or}
 use borrow.Author.Tests.{ltb-true, ltb-false}
+use Rattle.std.proofs.lemmas.Nat.Bits.{bit_at_and, bit_at_or, bit_at-suc}
 use Rattle.basics.proofs.Tests.{by_bool}
 use Rattle.bits.specs.Bits.{bit_at}
 
@@ -25,14 +25,10 @@ highest-at x k h = shr_mod 1 k h ∙ highest x k h
 
 -- the bits of `x & y` and of `x | y`
 pub and_at : (x y k : ℕ) → bit_at (bit_and x y) k ≡ min (bit_at x k) (bit_at y k)
-and_at x y k = rw (and_shr x y k) (omega (arith, and_step (x / 2 ^ k) (y / 2 ^ k)))
+and_at = bit_at_and
 
 pub or_at : (x y k : ℕ) → bit_at (bit_or x y) k ≡ max (bit_at x k) (bit_at y k)
-or_at x y k = rw (or_shr x y k) (omega (arith, or_step (x / 2 ^ k) (y / 2 ^ k)))
-
--- half of a number has its bits one place lower
-half_at : (x k : ℕ) → bit_at x (suc k) ≡ bit_at (x / 2) k
-half_at x k = rw (← one-add k, shr-shr x 1 k)
+or_at = bit_at_or
 
 -- the bits of `!x`, of a number of n bits
 pub not_at : (n x k : ℕ) → x < 2 ^ n → k < n → bit_at (2 ^ n - 1 - x) k ≡ 1 - bit_at x k
@@ -41,4 +37,4 @@ not_at (suc n) x zero h l = omega (arith, pow-suc 2 n)
 not_at (suc n) x (suc k) h l =
     let twice = pow-suc 2 n in
     let half : (2 ^ suc n - 1 - x) / 2 ≡ 2 ^ n - 1 - x / 2 = omega (arith, twice) in
-    rw (half_at (2 ^ suc n - 1 - x) k, half, half_at x k) (not_at n (x / 2) k (omega (arith, twice)) (omega arith))
+    rw (bit_at-suc (2 ^ suc n - 1 - x) k, half, bit_at-suc x k) (not_at n (x / 2) k (omega (arith, twice)) (omega arith))

@@ -1,13 +1,14 @@
 -- Examples, computed. Three cells: key 5 of store 8, key 132 of store 8 in the same bucket, key 5 of store 9.
-use Prim.Native.Nat.{ℕ}
-use mathlib.Core.Path.{◌≡◌, refl}
-use mathlib.Core.List.{List, [], ◌∷◌, map}
-use Rattle.cells.specs.declared.stores.Cell.TheVariants.{Never, Put}
+use Rattle.std.proofs.Common.{◌≡◌, ℕ, List, [], ◌∷◌, map, Some, None, refl}
+use Rattle.cells.specs.declared.chains.Cell.{Cell}
 use Rattle.cells.specs.Stores.{cell_in, place_of}
 use Rattle.cells.specs.Chains.{last, walk, bucket_of}
 
-abbrev three : List ℕ
-three = 8 ∷ 5 ∷ 70 ∷ 0 ∷ 8 ∷ 132 ∷ 71 ∷ 1 ∷ 9 ∷ 5 ∷ 72 ∷ 0 ∷ []
+abbrev cell : (object key value link : ℕ) → Cell
+cell object key value link = record { object = object; key = key; value = value; link = link }
+
+abbrev three : List Cell
+three = cell 8 5 70 0 ∷ cell 8 132 71 1 ∷ cell 9 5 72 0 ∷ []
 
 buckets : bucket_of 8 5 ∷ bucket_of 8 132 ∷ bucket_of 9 5 ∷ [] ≡ 40 ∷ 40 ∷ 41 ∷ []
 buckets = refl
@@ -17,6 +18,6 @@ walks : walk three 8 132 2048 2 ∷ walk three 8 5 2048 2 ∷ walk three 8 259 2
 unfolding walk
 walks = refl
 
-cells : map (λ o. cell_in three (place_of three 3 o 5)) (8 ∷ 9 ∷ 10 ∷ []) ≡ Put 70 ∷ Put 72 ∷ Never ∷ []
+cells : map (λ o. cell_in three (place_of three 3 o 5)) (8 ∷ 9 ∷ 10 ∷ []) ≡ Some 70 ∷ Some 72 ∷ None ∷ []
 unfolding last
 cells = refl

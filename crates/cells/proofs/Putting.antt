@@ -1,191 +1,182 @@
--- Laws of a put: arrays that hold contents hold those with the key put. Arrays that hold nothing.
-use Prim.Native.Nat.{ℕ, zero, suc, ◌+◌, ◌*◌, ◌-◌, ◌%◌, ◌≤◌, ◌<◌}
-use mathlib.Core.Path.{◌≡◌, refl, sym, ap, ◌∙◌, subst}
-use mathlib.Core.Bool.{Bool, true, false, cond, ◌&&◌}
-use mathlib.Core.List.{List}
-use native.Mathlib.Omega.{arith}
-use native.Mathlib.Numerals.{add-one}
-use lib.Dec.{eqb}
-use lib.ListN.{get_or, set, length, replicate, length-set, length-replicate, get_or-replicate}
-use lib.Seq.{get_or-set_same, get_or-set_other}
-use borrow.Author.Tests.{eqb-true, eqb-false, lt-ltb, le-ltb}
+-- Laws of a put: stores that hold contents hold those with the key put. Stores that hold nothing.
+use Rattle.std.proofs.Common.{◌≡◌, ℕ, zero, suc, ◌+◌, ◌-◌, ◌≤◌, ◌<◌, Bool, true, false, cond, ◌&&◌, eqb, get_or, set, length, List, Option, Some, None, refl, sym, ap, ◌∙◌, subst, add-one, arith, length-set, get_or-set_same, get_or-set_other, eqb-true, lt-ltb, le-ltb}
+use lib.ListN.{length-replicate, get_or-replicate}
+use borrow.Author.Tests.{eqb-false}
 use Rattle.basics.proofs.Tests.{by_bool, and-true}
-use Rattle.cells.specs.declared.stores.Cell.{Cell}
-use Rattle.cells.specs.declared.stores.Cell.TheVariants.{Never, Put}
-use Rattle.cells.specs.Rows.{value_at, link_at, is_at, with_cell}
-use Rattle.cells.specs.Chains.{last, bucket_of, bucket_at, in_bucket}
-use Rattle.cells.specs.Stores.{Contents, Holds, PutsInto, cell_in, place_of, put_in, fits, added}
+use Rattle.cells.specs.declared.chains.Cell.{Cell}
+use Rattle.cells.specs.declared.stores.Stores.{Stores}
+use Rattle.cells.specs.Rows.{is_of, cell_at, is_at, no_cell}
+use Rattle.cells.specs.Chains.{last, bucket_of, bucket_at, in_bucket, walk, cell_of}
+use Rattle.cells.specs.Stores.{Contents, Holds, PutsInto, cell_in, place_of, put_in, fits, added, head_of, no_stores}
 use Rattle.cells.proofs.Last.{last-next, last-le, last-true, last-same}
-use Rattle.cells.proofs.RowLaws.{SameKeys, same_at, same-bucket, same-bucket-at, new-length, new-object, new-key, new-value, new-link, new-below, new-same, changed-same, changed-other}
-use Rattle.cells.proofs.Looking.{at-keys, is_never}
+use Rattle.cells.proofs.RowLaws.{SameKeys, same_at, same-bucket, same-bucket-at, link-same, cell-same, cell-other, new-same, changed-same}
+use Rattle.cells.proofs.Looking.{at-keys, place-is, place-le, found, held-none}
 
 -- cells of the same keys have the same places, and are on the same chains
-module _ {n : ℕ} {rows' rows : List ℕ} (s : SameKeys n rows' rows) where
-  same-last : (b m : ℕ) → m ≤ n → last (in_bucket rows' b) m ≡ last (in_bucket rows b) m
-  same-last b m g = last-same (in_bucket rows' b) (in_bucket rows b) m (λ i k. same-bucket s i (omega arith) b)
+module _ {n : ℕ} {cells' cells : List Cell} (s : SameKeys n cells' cells) where
+  same-last : (b m : ℕ) → m ≤ n → last (in_bucket cells' b) m ≡ last (in_bucket cells b) m
+  same-last b m g = last-same (in_bucket cells' b) (in_bucket cells b) m (λ i k. same-bucket s i (omega arith) b)
 
-  same-link : (i : ℕ) → i < n → last (in_bucket rows' (bucket_at rows' i)) i ≡ last (in_bucket rows (bucket_at rows i)) i
-  same-link i k = ap (λ b. last (in_bucket rows' b) i) (same-bucket-at s i k) ∙ same-last (bucket_at rows i) i (omega arith)
+  same-link : (i : ℕ) → i < n → last (in_bucket cells' (bucket_at cells' i)) i ≡ last (in_bucket cells (bucket_at cells i)) i
+  same-link i k = ap (λ b. last (in_bucket cells' b) i) (same-bucket-at s i k) ∙ same-last (bucket_at cells i) i (omega arith)
 
-  same_place : (m object key : ℕ) → m ≤ n → place_of rows' m object key ≡ place_of rows m object key
-  same_place m object key g = last-same (is_at rows' object key) (is_at rows object key) m (λ i k. same_at s i (omega arith) object key)
+  same_place : (m object key : ℕ) → m ≤ n → place_of cells' m object key ≡ place_of cells m object key
+  same_place m object key g =
+      last-same (is_at cells' object key) (is_at cells object key) m (λ i k. same_at s i (omega arith) object key)
 
-module _ {rows buckets : List ℕ} {n : ℕ} {c : Contents} (h : Holds rows buckets n c) (object key value : ℕ) where
-  -- a put of a key whose cell is known
-  into : {rows' buckets' : List ℕ} {m : ℕ} (x : Cell) → c object key ≡ x → m ≡ n + added n x
-      → Holds rows' buckets' m (cond (fits n x) (put_in c object key value) c) → PutsInto n c object key value rows' buckets' m
+module _ {s : Stores} {c : Contents} (h : Holds s c) (object key value : ℕ) where
+  abbrev b : ℕ
+  b = bucket_of object key
+
+  -- a put of a key that holds x
+  into : {s' : Stores} (x : Option ℕ) → c object key ≡ x → s'.used ≡ s.used + added s.used x
+      → Holds s' (cond (fits s.used x) (put_in c object key value) c) → PutsInto s.used c object key value s'
   into x e d k = record { count = rw e d; holds = rw e k }
 
   -- ── a held key, in the cell q ──
-  module _ (q : ℕ) (e : suc q ≡ place_of rows n object key) where
-    abbrev changed : List ℕ
-    changed = set rows (q * 4 + 2) value
+  module _ (q : ℕ) (e : suc q ≡ place_of s.cells s.used object key) where
+    abbrev changed : List Cell
+    changed = set s.cells q (record (cell_at s.cells q) { value = value })
 
-    s : SameKeys n changed rows
-    s = changed-same rows n q value
+    inside : q < length s.cells
+    inside = let l = place-le h object key in omega (arith, h.few, h.cells_room)
 
-    place-le : suc q ≤ n
-    place-le = let l = last-le (is_at rows object key) n in omega arith
+    k : SameKeys s.used changed s.cells
+    k = changed-same s.cells q (record (cell_at s.cells q) { value = value }) s.used inside refl
 
     -- q is the cell of no other key
-    not_there : (o k : ℕ) → (eqb object o && eqb key k) ≡ false → suc q ≡ place_of rows n o k → ⊥
-    not_there o k f d =
-        let t : is_at rows object key (place_of rows n object key - 1) ≡ true = last-true (is_at rows object key) n (omega arith) in
-        let u : is_at rows o k (place_of rows n o k - 1) ≡ true = last-true (is_at rows o k) n (omega arith) in
-        let z : place_of rows n o k - 1 ≡ place_of rows n object key - 1 = omega arith in
-        let v : (eqb object o && eqb key k) ≡ true =
-        sym (at-keys rows object key _ t o k) ∙ ap (is_at rows o k) (sym z) ∙ u in
+    not_there : (o m : ℕ) → (eqb object o && eqb key m) ≡ false → suc q ≡ place_of s.cells s.used o m → ⊥
+    not_there o m f d =
+        let n = s.used in
+        let t : is_at s.cells object key (place_of s.cells n object key - 1) ≡ true = last-true (is_at s.cells object key) n (omega arith) in
+        let u : is_at s.cells o m (place_of s.cells n o m - 1) ≡ true = last-true (is_at s.cells o m) n (omega arith) in
+        let z : place_of s.cells n o m - 1 ≡ place_of s.cells n object key - 1 = omega arith in
+        let v : (eqb object o && eqb key m) ≡ true =
+        sym (at-keys s.cells object key _ t o m) ∙ ap (is_at s.cells o m) (sym z) ∙ u in
         let w : ◌≡◌ {A = Bool} true false = sym v ∙ f in let x : ◌≡◌ {A = ℕ} 0 1 = cc in omega arith
 
-    other-cell : (m : ℕ) → (suc q ≡ m → ⊥) → cell_in rows m ≡ cell_in changed m
+    other-cell : (m : ℕ) → (suc q ≡ m → ⊥) → cell_in s.cells m ≡ cell_in changed m
     other-cell zero d = refl
-    other-cell (suc j) d = ap Put (sym (changed-other rows n q value j (λ i. d (ap suc (sym i)))))
+    other-cell (suc j) d = ap (λ x. Some x.value) (sym (cell-other s.cells q _ j (λ i. d (ap suc (sym i)))))
 
-    changed-cells : (o k : ℕ) → put_in c object key value o k ≡ cell_in changed (place_of changed n o k)
-    changed-cells o k =
-        let p = same_place s n o k (omega arith) in
-        by_bool (eqb object o && eqb key k)
-        (λ t. let x : object ≡ o = eqb-true _ _ (and-true (eqb object o) (eqb key k) t).0 in
-        let y : key ≡ k = eqb-true _ _ (and-true (eqb object o) (eqb key k) t).1 in
-        let z : suc q ≡ place_of changed n o k = e ∙ (λ j. place_of rows n (x j) (y j)) ∙ sym p in
-        let l = place-le in
-        rw t (ap Put (sym (get_or-set_same rows (q * 4 + 2) value 0 (omega (arith, h.rows_room, h.few)))) ∙ ap (cell_in changed) z))
-        (λ t. rw t (h.cells o k ∙ other-cell (place_of rows n o k) (not_there o k t) ∙ ap (cell_in changed) (sym p)))
+    changed-cells : (o m : ℕ) → put_in c object key value o m ≡ cell_in changed (place_of changed s.used o m)
+    changed-cells o m =
+        let p = same_place k s.used o m (omega arith) in
+        by_bool (eqb object o && eqb key m)
+        (λ t. let both = and-true (eqb object o) (eqb key m) t in
+        let x : object ≡ o = eqb-true _ _ both.0 in
+        let y : key ≡ m = eqb-true _ _ both.1 in
+        let z : suc q ≡ place_of changed s.used o m = e ∙ (λ j. place_of s.cells s.used (x j) (y j)) ∙ sym p in
+        rw t (ap (λ x. Some x.value) (sym (cell-same s.cells q _ inside)) ∙ ap (cell_in changed) z))
+        (λ t. rw t (h.cells o m ∙ other-cell (place_of s.cells s.used o m) (not_there o m t) ∙ ap (cell_in changed) (sym p)))
 
-    changed-into : PutsInto n c object key value changed buckets n
+    changed-into : PutsInto s.used c object key value (record s { cells = changed })
     changed-into =
-        into (Put (value_at rows q)) (h.cells object key ∙ ap (cell_in rows) (sym e)) (omega arith)
+        into (Some (cell_at s.cells q).value) (h.cells object key ∙ ap (cell_in s.cells) (sym e)) (omega arith)
         (record {
-          rows_room = length-set rows (q * 4 + 2) value ∙ h.rows_room;
-          buckets_room = h.buckets_room;
+          cells_room = length-set s.cells q _ ∙ h.cells_room;
+          heads_room = h.heads_room;
           few = h.few;
-          head = λ b k. h.head b k ∙ sym (same-last s b n (omega arith));
-          link = λ i k. s.links i k ∙ h.link i k ∙ sym (same-link s i k);
+          head = λ a l. h.head a l ∙ sym (same-last k a s.used (omega arith));
+          link = λ i l. link-same k i l ∙ h.link i l ∙ sym (same-link k i l);
           cells = changed-cells;
         })
 
-  module _ (p : ℕ) (e : p ≡ place_of rows n object key) where
-    -- as the code writes it
-    pub put-changed : (p ≡ 0 → ⊥) → PutsInto n c object key value (set rows ((p - 1) % 2048 * 4 + 2) value) buckets n
-    put-changed g =
-        let l = last-le (is_at rows object key) n in
-        let d : suc ((p - 1) % 2048) ≡ p = omega (arith, h.few) in
-        changed-into ((p - 1) % 2048) (d ∙ e)
+  -- ── a new key, in a new cell ──
+  module _ (z : c object key ≡ None) (g : s.used < 2048) where
+    abbrev new : Cell
+    new = record { object = object; key = key; value = value; link = get_or s.heads b 0 }
 
-    -- ── a new key without room ──
-    pub put_full : p ≡ 0 → 2048 ≤ n → PutsInto n c object key value rows buckets n
-    put_full z g =
-        into Never (is_never h object key p e z) (rw (le-ltb n 2048 g) (omega arith)) (rw (le-ltb n 2048 g) h)
+    abbrev cells' : List Cell
+    cells' = set s.cells s.used new
 
-    -- ── a new key, in a new cell n ──
-    module _ (z : p ≡ 0) (g : n < 2048) where
-      abbrev b : ℕ
-      b = bucket_of object key
+    abbrev heads' : List ℕ
+    heads' = set s.heads b (s.used + 1)
 
-      abbrev rows' : List ℕ
-      rows' = with_cell rows n object key value (get_or buckets b 0)
+    at-new : cell_at cells' s.used ≡ new
+    at-new = cell-same s.cells s.used new (omega (arith, h.cells_room))
 
-      abbrev buckets' : List ℕ
-      buckets' = set buckets b (n + 1)
+    k' : SameKeys s.used cells' s.cells
+    k' = new-same s.cells s.used new
 
-      s' : SameKeys n rows' rows
-      s' = new-same rows n object key value (get_or buckets b 0) h.rows_room g
+    new-last : (a : ℕ) → last (in_bucket cells' a) (s.used + 1) ≡ cond (eqb b a) (s.used + 1) (last (in_bucket s.cells a) s.used)
+    new-last a =
+        last-next (in_bucket cells' a) s.used
+        ∙ (λ j. cond (eqb (bucket_of (at-new j).object (at-new j).key) a) (s.used + 1) (same-last k' a s.used (omega arith) j))
 
-      new-at : (o k : ℕ) → is_at rows' o k n ≡ (eqb object o && eqb key k)
-      new-at o k =
-          let x = new-object rows n object key value (get_or buckets b 0) h.rows_room g in
-          let y = new-key rows n object key value (get_or buckets b 0) h.rows_room g in λ j. eqb (x j) o && eqb (y j) k
+    new-head : (a : ℕ) → a < 1016 → get_or heads' a 0 ≡ last (in_bucket cells' a) (s.used + 1)
+    new-head a l =
+        by_bool (eqb b a)
+        (λ t. ap (λ m. get_or heads' m 0) (sym (eqb-true b a t))
+        ∙ get_or-set_same s.heads b (s.used + 1) 0 (omega (arith, h.heads_room)) ∙ sym (new-last a ∙ rw t))
+        (λ t. get_or-set_other s.heads b a (s.used + 1) 0 (λ d. eqb-false b a t (sym d)) ∙ h.head a l ∙ sym (new-last a ∙ rw t))
 
-      new-bucket : bucket_at rows' n ≡ b
-      new-bucket =
-          let x = new-object rows n object key value (get_or buckets b 0) h.rows_room g in
-          let y = new-key rows n object key value (get_or buckets b 0) h.rows_room g in λ j. bucket_of (x j) (y j)
+    new-links : (i : ℕ) → i < s.used + 1 → (cell_at cells' i).link ≡ last (in_bucket cells' (bucket_at cells' i)) i
+    new-links i l =
+        by_bool (eqb i s.used)
+        (λ t. subst (λ m. (cell_at cells' m).link ≡ last (in_bucket cells' (bucket_at cells' m)) m) (sym (eqb-true i s.used t))
+        (ap (λ x. x.link) at-new ∙ h.head b (omega arith)
+        ∙ sym (ap (λ x. last (in_bucket cells' (bucket_of x.object x.key)) s.used) at-new ∙ same-last k' b s.used (omega arith))))
+        (λ t. let d = eqb-false i s.used t in
+        let m : i < s.used = omega arith in link-same k' i m ∙ h.link i m ∙ sym (same-link k' i m))
 
-      new-last : (a : ℕ) → last (in_bucket rows' a) (n + 1) ≡ cond (eqb b a) (n + 1) (last (in_bucket rows a) n)
-      new-last a = last-next (in_bucket rows' a) n ∙ (λ j. cond (eqb (new-bucket j) a) (n + 1) (same-last s' a n (omega arith) j))
+    old-cell : (m : ℕ) → m ≤ s.used → cell_in s.cells m ≡ cell_in cells' m
+    old-cell zero l = refl
+    old-cell (suc j) l = ap (λ x. Some x.value) (sym (cell-other s.cells s.used new j (λ e. absurd (omega arith))))
 
-      new-head : (a : ℕ) → a < 1016 → get_or buckets' a 0 ≡ last (in_bucket rows' a) (n + 1)
-      new-head a k =
-          by_bool (eqb b a)
-          (λ t. ap (λ m. get_or buckets' m 0) (sym (eqb-true b a t))
-          ∙ get_or-set_same buckets b (n + 1) 0 (omega (arith, h.buckets_room)) ∙ sym (new-last a ∙ rw t))
-          (λ t. get_or-set_other buckets b a (n + 1) 0 (λ d. eqb-false b a t (sym d)) ∙ h.head a k ∙ sym (new-last a ∙ rw t))
+    new-cells : (o m : ℕ) → put_in c object key value o m ≡ cell_in cells' (place_of cells' (s.used + 1) o m)
+    new-cells o m =
+        let p = place_of s.cells s.used o m in
+        let f : place_of cells' (s.used + 1) o m ≡ cond (eqb object o && eqb key m) (s.used + 1) p =
+        last-next (is_at cells' o m) s.used ∙ (λ j. cond (is_of (at-new j) o m) (s.used + 1) (same_place k' s.used o m (omega arith) j)) in
+        by_bool (eqb object o && eqb key m)
+        (λ t. let d : place_of cells' (s.used + 1) o m ≡ suc s.used = f ∙ rw t (add-one s.used) in
+        rw t (ap (λ x. Some x.value) (sym at-new) ∙ ap (cell_in cells') (sym d)))
+        (λ t. let d : place_of cells' (s.used + 1) o m ≡ p = f ∙ rw t in
+        rw t (h.cells o m ∙ old-cell p (last-le (is_at s.cells o m) s.used) ∙ ap (cell_in cells') (sym d)))
 
-      new-links : (i : ℕ) → i < n + 1 → link_at rows' i ≡ last (in_bucket rows' (bucket_at rows' i)) i
-      new-links i k =
-          by_bool (eqb i n)
-          (λ t. subst (λ m. link_at rows' m ≡ last (in_bucket rows' (bucket_at rows' m)) m) (sym (eqb-true i n t))
-          (new-link rows n object key value (get_or buckets b 0) h.rows_room g ∙ h.head b (omega arith)
-          ∙ sym (ap (λ a. last (in_bucket rows' a) n) new-bucket ∙ same-last s' b n (omega arith))))
-          (λ t. let d = eqb-false i n t in let l : i < n = omega arith in s'.links i l ∙ h.link i l ∙ sym (same-link s' i l))
+    new-into : PutsInto s.used c object key value (record { cells = cells'; heads = heads'; used = s.used + 1 })
+    new-into =
+        into None z (rw (lt-ltb s.used 2048 g))
+        (rw (lt-ltb s.used 2048 g)
+        (record {
+          cells_room = length-set s.cells s.used new ∙ h.cells_room;
+          heads_room = length-set s.heads b (s.used + 1) ∙ h.heads_room;
+          few = omega arith;
+          head = new-head;
+          link = new-links;
+          cells = new-cells;
+        }))
 
-      old-cell : (m : ℕ) → m ≤ n → cell_in rows m ≡ cell_in rows' m
-      old-cell zero l = refl
-      old-cell (suc j) l =
-          ap Put (sym (new-below rows n object key value (get_or buckets b 0) h.rows_room g (j * 4 + 2) (omega arith)))
+  -- ── as the code does it: r is the cell that the walk from the bucket's head finds ──
+  module _ (r : Option ℕ) (e : r ≡ cell_of (walk s.cells object key 2048 (head_of s object key))) where
+    pub put-changed : (q : ℕ) → r ≡ Some q → PutsInto s.used c object key value (record s { cells = set s.cells q (record (cell_at s.cells q) { value = value }) })
+    put-changed q d =
+        let l = place-le h object key in
+        changed-into q (place-is _ q (omega (arith, h.few)) (sym d ∙ e ∙ ap cell_of (found h object key)))
 
-      new-cells : (o k : ℕ) → put_in c object key value o k ≡ cell_in rows' (place_of rows' (n + 1) o k)
-      new-cells o k =
-          let f : place_of rows' (n + 1) o k ≡ cond (eqb object o && eqb key k) (n + 1) (place_of rows n o k) =
-          last-next (is_at rows' o k) n ∙ (λ j. cond (new-at o k j) (n + 1) (same_place s' n o k (omega arith) j)) in
-          by_bool (eqb object o && eqb key k)
-          (λ t. let d : place_of rows' (n + 1) o k ≡ suc n = f ∙ rw t (add-one n) in
-          rw t (ap Put (sym (new-value rows n object key value (get_or buckets b 0) h.rows_room g)) ∙ ap (cell_in rows') (sym d)))
-          (λ t. let d : place_of rows' (n + 1) o k ≡ place_of rows n o k = f ∙ rw t in
-          rw t (h.cells o k ∙ old-cell (place_of rows n o k) (last-le (is_at rows o k) n) ∙ ap (cell_in rows') (sym d)))
+    module _ (d : r ≡ None) where
+      unheld : c object key ≡ None
+      unheld = held-none h object key r e d
 
-      new-holds : Holds rows' buckets' (n + 1) (put_in c object key value)
-      new-holds =
-          record {
-            rows_room = new-length rows n object key value (get_or buckets b 0) h.rows_room g;
-            buckets_room = length-set buckets b (n + 1) ∙ h.buckets_room;
-            few = omega arith;
-            head = new-head;
-            link = new-links;
-            cells = new-cells;
-          }
+      pub put-full : 2048 ≤ s.used → PutsInto s.used c object key value s
+      put-full g = into None unheld (rw (le-ltb s.used 2048 g) (omega arith)) (rw (le-ltb s.used 2048 g) h)
 
-      put-new : PutsInto n c object key value rows' buckets' (n + 1)
-      put-new = into Never (is_never h object key p e z) (rw (lt-ltb n 2048 g)) (rw (lt-ltb n 2048 g) new-holds)
-
-      -- as the code writes it, with a for the bucket and w for its head
-      pub put-added : (a w : ℕ) (rows'' : List ℕ) → a ≡ b → w ≡ get_or buckets a 0 → rows'' ≡ with_cell rows (n % 2048) object key value w
-          → PutsInto n c object key value rows'' (set buckets a (n + 1)) (n + 1)
-      put-added a w rows'' x y z =
-          let m : n % 2048 ≡ n = omega arith in
-          let f : w ≡ get_or buckets b 0 = y ∙ ap (λ i. get_or buckets i 0) x in
-          let d : rows'' ≡ rows' = z ∙ (λ j. with_cell rows (m j) object key value (f j)) in
-          subst (λ r. PutsInto n c object key value r (set buckets a (n + 1)) (n + 1)) (sym d)
-          (subst (λ i. PutsInto n c object key value rows' (set buckets i (n + 1)) (n + 1)) (sym x) put-new)
+      pub put-added : s.used < 2048 → (a w : ℕ) → a ≡ b → w ≡ get_or s.heads a 0 → PutsInto s.used c object key value
+          (record {
+            cells = set s.cells s.used (record { object = object; key = key; value = value; link = w });
+            heads = set s.heads a (s.used + 1);
+            used = s.used + 1;
+          })
+      put-added g a w x y = rw (y, x) (new-into unheld g)
 
 -- ── at the start, and the same contents ──
--- cleared buckets, and cells of any kind
-pub blank : (rows : List ℕ) → length rows ≡ 8192 → Holds rows (replicate 1016 0) 0 (λ object key. Never)
+pub blank : Holds no_stores (λ object key. None)
 unfolding last
-blank rows r =
+blank =
     record {
-      rows_room = r;
-      buckets_room = length-replicate {A = ℕ} 1016 0;
+      cells_room = length-replicate 2048 no_cell;
+      heads_room = length-replicate {A = ℕ} 1016 0;
       few = omega arith;
       head = λ b k. get_or-replicate 1016 b 0 0 k;
       link = λ i k. absurd (omega arith);
@@ -193,12 +184,11 @@ blank rows r =
     }
 
 -- contents that are the same key by key
-pub holds_same : {rows buckets : List ℕ} {n : ℕ} {c d : Contents} → ((object key : ℕ) → d object key ≡ c object key)
-    → Holds rows buckets n c → Holds rows buckets n d
+pub holds_same : {s : Stores} {c d : Contents} → ((object key : ℕ) → d object key ≡ c object key) → Holds s c → Holds s d
 holds_same e h =
     record {
-      rows_room = h.rows_room;
-      buckets_room = h.buckets_room;
+      cells_room = h.cells_room;
+      heads_room = h.heads_room;
       few = h.few;
       head = h.head;
       link = h.link;

@@ -1,6 +1,7 @@
 -- The chains of cells. A place is a cell counted from 1, and 0 is none.
-use Rattle.std.specs.Prelude.{ℕ, zero, suc, ◌+◌, ◌*◌, ◌%◌, Bool, cond, List, eqb}
-use Rattle.cells.specs.Rows.{object_at, key_at, link_at, is_at, most_cells}
+use Rattle.std.specs.Prelude.{ℕ, zero, suc, ◌+◌, ◌*◌, ◌%◌, Bool, cond, List, Option, Some, None, eqb}
+use Rattle.cells.specs.declared.chains.Cell.{Cell}
+use Rattle.cells.specs.Rows.{cell_at, is_at, most_cells}
 
 -- the last place among the first n where a test holds
 unfoldable pub last : (ℕ → Bool) → ℕ → ℕ
@@ -21,15 +22,20 @@ most_buckets = key_buckets * most_stores
 abbrev pub bucket_of : (object key : ℕ) → ℕ
 bucket_of object key = key % key_buckets * most_stores + object % most_stores
 
-abbrev pub bucket_at : List ℕ → ℕ → ℕ
-bucket_at rows i = bucket_of (object_at rows i) (key_at rows i)
+abbrev pub bucket_at : List Cell → ℕ → ℕ
+bucket_at cells i = bucket_of (cell_at cells i).object (cell_at cells i).key
 
-abbrev pub in_bucket : List ℕ → (bucket : ℕ) → ℕ → Bool
-in_bucket rows b i = eqb (bucket_at rows i) b
+abbrev pub in_bucket : List Cell → (bucket : ℕ) → ℕ → Bool
+in_bucket cells b i = eqb (bucket_at cells i) b
 
 -- the place of a key on a chain from place j on, within k steps
-unfoldable pub walk : List ℕ → (object key k j : ℕ) → ℕ
-walk rows object key zero j = 0
-walk rows object key (suc k) zero = 0
-walk rows object key (suc k) (suc j) =
-    cond (is_at rows object key (j % most_cells)) (suc j) (walk rows object key k (link_at rows (j % most_cells)))
+unfoldable pub walk : List Cell → (object key k j : ℕ) → ℕ
+walk cells object key zero j = 0
+walk cells object key (suc k) zero = 0
+walk cells object key (suc k) (suc j) =
+    cond (is_at cells object key (j % most_cells)) (suc j) (walk cells object key k (cell_at cells (j % most_cells)).link)
+
+-- the cell at a place
+abbrev pub cell_of : ℕ → Option ℕ
+cell_of zero = None
+cell_of (suc j) = Some (j % most_cells)

@@ -1,4 +1,5 @@
--- The definitions: a cell's row (Rows), the chains of cells (Chains), and arrays that hold contents, with what a put does to them (Stores).
+-- The definitions: the cells of an array (Rows), the chains of cells (Chains), and stores that hold contents, with what a put does to them
+-- (Stores).
 pub mod Rows
 pub mod Chains
 pub mod Stores

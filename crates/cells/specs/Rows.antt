@@ -1,28 +1,21 @@
--- Cells in an array of numbers: cell i is the row of four at four times i.
-use Rattle.std.specs.Prelude.{ℕ, ◌+◌, ◌*◌, Bool, ◌&&◌, List, eqb, get_or, set}
+-- The cells in a row: cell i of an array, and whether it is the one of a key.
+use Rattle.std.specs.Prelude.{ℕ, Bool, ◌&&◌, List, eqb, get_or}
+use Rattle.cells.specs.declared.chains.Cell.{Cell}
 
 -- the most cells
 abbrev pub most_cells : ℕ
 most_cells = 2048
 
-module _ (rows : List ℕ) where
-  abbrev pub object_at : ℕ → ℕ
-  object_at i = get_or rows (i * 4) 0
+abbrev pub no_cell : Cell
+no_cell = record { object = 0; key = 0; value = 0; link = 0 }
 
-  abbrev pub key_at : ℕ → ℕ
-  key_at i = get_or rows (i * 4 + 1) 0
+-- whether a cell is the one of a key
+abbrev pub is_of : Cell → (object key : ℕ) → Bool
+is_of cell object key = eqb cell.object object && eqb cell.key key
 
-  abbrev pub value_at : ℕ → ℕ
-  value_at i = get_or rows (i * 4 + 2) 0
+module _ (cells : List Cell) where
+  abbrev pub cell_at : ℕ → Cell
+  cell_at i = get_or cells i no_cell
 
-  abbrev pub link_at : ℕ → ℕ
-  link_at i = get_or rows (i * 4 + 3) 0
-
-  -- whether a cell is the one of a key
   abbrev pub is_at : (object key : ℕ) → ℕ → Bool
-  is_at object key i = eqb (object_at i) object && eqb (key_at i) key
-
-  -- the array with cell i written
-  unfoldable pub with_cell : (i object key value link : ℕ) → List ℕ
-  with_cell i object key value link =
-      set (set (set (set rows (i * 4) object) (i * 4 + 1) key) (i * 4 + 2) value) (i * 4 + 3) link
+  is_at object key i = is_of (cell_at i) object key

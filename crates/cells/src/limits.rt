@@ -1,11 +1,7 @@
-// How many cells there is room for, and how many buckets they fall into.
+// How many cells there is room for, and how many buckets they fall into. A bucket and the count of cells change their type by `as`: both fit,
+// and `try_from` would add an `Err` that never comes.
 
-// The most cells, each a row of four numbers.
 pub const CELLS: usize = 2048;
-
-pub const CELL_ROW: usize = 4;
-
-pub const CELL_ROWS: usize = CELLS * CELL_ROW;
 
 // The buckets of one store's keys, and how many stores there are.
 pub const KEY_BUCKETS: u64 = 127;

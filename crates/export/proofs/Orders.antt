@@ -7,25 +7,24 @@ use lib.ListN.{length, get_or, set}
 use borrow.Author.Tests.{ltb-true, ltb-false}
 use Rattle.basics.proofs.Tests.{clash, by_bool}
 use Rattle.lines.specs.Put.{front, written_of, put_of, left_of, PutIs}
-use Rattle.lines.specs.declared.writer.Put.{Put}
-use Rattle.lines.specs.declared.writer.Put.TheVariants.{Wrote, Short}
+use Rattle.std.proofs.Common.{Option, Some, None}
 use Rattle.lines.proofs.Puts.{put-done, front-more}
 use Rattle.verifier.specs.declared.Audited.{Audited}
 use Rattle.export.specs.Numbers.{audit_numbers, if_both, OrderHanded}
 use Rattle.export.proofs.Rooms.{no_room, room}
 
 -- a text that was put had room, and one that was not had none
-module _ (t o p : List ℕ) (q : Put) (i : PutIs t o p q) where
-  put-none : q ≡ Short → (length o < length t) × (p ≡ o)
+module _ (t o p : List ℕ) (q : Option ℕ) (i : PutIs t o p q) where
+  put-none : q ≡ None → (length o < length t) × (p ≡ o)
   unfolding put_of left_of
   put-none e = by_bool (ltb (length o) (length t))
       (λ b. (ltb-true _ _ b, i.bytes ∙ simp (b, left_of)))
-      (λ b. let d : Short ≡ Wrote (length t) = sym e ∙ i.answer ∙ simp (b, put_of) in clash (cc))
+      (λ b. let d : None ≡ Some (length t) = sym e ∙ i.answer ∙ simp (b, put_of) in clash (cc))
 
-  put-wrote : (n : ℕ) → q ≡ Wrote n → (length t ≤ length o) × (n ≡ length t) × (p ≡ front t o)
+  put-wrote : (n : ℕ) → q ≡ Some n → (length t ≤ length o) × (n ≡ length t) × (p ≡ front t o)
   unfolding put_of
   put-wrote n e = by_bool (ltb (length o) (length t))
-      (λ b. let d : Wrote n ≡ Short = sym e ∙ i.answer ∙ simp (b, put_of) in clash (cc))
+      (λ b. let d : Some n ≡ None = sym e ∙ i.answer ∙ simp (b, put_of) in clash (cc))
       (λ b. let h = ltb-false _ _ b in let w = put-done t o p q h i in (h, sym (ap written_of e) ∙ w.0, w.1))
 
 module _ {A : Type 0} (out t order : List ℕ) (x y : A) where
@@ -44,8 +43,8 @@ module _ (a : Audited) (t out order : List ℕ) where
   pub not-placed : length out < 7 → OrderHanded a t out order out order 0
   not-placed h = record { count = no_place out t order _ _ h; numbers = no_place out t order _ _ h; items = no_place out t order _ _ h }
 
-  module _ (after : List ℕ) (q : Put) (i : PutIs t order after q) where
-    pub not-ordered : q ≡ Short → OrderHanded a t out order out after 0
+  module _ (after : List ℕ) (q : Option ℕ) (i : PutIs t order after q) where
+    pub not-ordered : q ≡ None → OrderHanded a t out order out after 0
     not-ordered e =
         let p = put-none t order after q i e in
         record {
@@ -55,7 +54,7 @@ module _ (a : Audited) (t out order : List ℕ) where
         }
 
     -- n numbers of the order were put, and the result is b
-    pub ordered : (n : ℕ) → q ≡ Wrote n → (b : Audited) → b ≡ a → 7 ≤ length out → (u : List ℕ) → u ≡ front (audit_numbers b) out →
+    pub ordered : (n : ℕ) → q ≡ Some n → (b : Audited) → b ≡ a → 7 ≤ length out → (u : List ℕ) → u ≡ front (audit_numbers b) out →
         OrderHanded a t out order (set u 6 n) after 7
     ordered n e b d h u f =
         let w = put-wrote t order after q i n e in

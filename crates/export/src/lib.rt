@@ -1,4 +1,5 @@
-// The audit and the reference host for programs in Rust and C. A slice passes as its address and its length, a number as itself.
+// The audit and the reference host for programs in Rust and C. A slice passes as its address and its length, a number as itself, and C has no
+// Option, so a refusal is 0.
 #![tactic(auto)]
 
 mod numbers;
@@ -16,8 +17,7 @@ ghost use Rattle.export.specs.Numbers.{if_room, handed, audit_numbers, record_fr
 ghost use Rattle.export.specs.Printed.{PrintedIs};
 ghost use Rattle.export.specs.Version.{version};
 
-use lines::{Put, written};
-use numbers::{fill_audited, fill_four};
+use numbers::{fill, numbers_of};
 
 // The version's parts, of which minor and patch stay below 1,000.
 const MAJOR: u64 = 0;
@@ -52,7 +52,7 @@ pub extern "C" fn teaselshears_audit(
     if out.len() < 6 {
         return 0;
     }
-    fill_audited(out, verifier::audit(programs, trace, report));
+    fill(out, &numbers_of(verifier::audit(programs, trace, report)));
     6
 }
 
@@ -78,11 +78,10 @@ pub extern "C" fn teaselshears_order(
         return 0;
     }
     let r = verifier::audit_order(programs, trace, report, order);
-    let written = r.order;
-    let Put::Wrote(n) = written else {
+    let Some(n) = r.order else {
         return 0;
     };
-    fill_audited(out, r.audited);
+    fill(out, &numbers_of(r.audited));
     out[6] = n as u64;
     7
 }
@@ -107,12 +106,9 @@ pub extern "C" fn teaselshears_record(
         return 0;
     }
     let r = host::record(programs, schedule, trace, report);
-    fill_four(
+    fill(
         out,
-        r.verdict,
-        r.line,
-        r.trace_len as u64,
-        r.report_len as u64,
+        &[r.verdict, r.line, r.trace_len as u64, r.report_len as u64],
     );
     4
 }
@@ -129,7 +125,7 @@ pub extern "C" fn teaselshears_audit_text(
     ensures { PrintedIs (printed_text programs.now trace.now report.now)
         out.old out.new result }
 {
-    written(verifier::audit_text(programs, trace, report, out))
+    verifier::audit_text(programs, trace, report, out).unwrap_or(0)
 }
 
 // What the program `record` prints of a schedule, to the front of out. The result is how many bytes were written: all, or none where out is
@@ -144,5 +140,5 @@ pub extern "C" fn teaselshears_record_text(
         (run_printed programs.now schedule.now)
         out.old out.new result }
 {
-    written(host::record_text(programs, schedule, out))
+    host::record_text(programs, schedule, out).unwrap_or(0)
 }

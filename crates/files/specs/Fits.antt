@@ -1,8 +1,5 @@
 -- What is promised of a read: no more bytes than the buffer has.
-use Rattle.std.specs.Prelude.{ℕ, ◌≤◌, List, length}
-use Rattle.files.specs.declared.Got.{Got}
-use Rattle.files.specs.declared.Got.TheVariants.{Bytes, Failed}
+use Rattle.std.specs.Prelude.{ℕ, ◌≤◌, List, length, Result, IfOk}
 
-abbrev pub Fits : Got → List ℕ → Type 0
-Fits (Bytes n) buf = n ≤ length buf
-Fits Failed buf = Unit {0}
+abbrev pub Fits : {E : Type 0} → Result ℕ E → List ℕ → Type 0
+Fits r buf = IfOk r (λ n. n ≤ length buf)

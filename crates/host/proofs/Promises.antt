@@ -1,65 +1,55 @@
--- Laws that bring the promises of a line's leaves together.
-use Prim.Native.Nat.{ℕ, ◌+◌}
-use mathlib.Core.List.{List, []}
-use mathlib.Core.Path.{◌≡◌, sym, ap, subst, ◌∙◌}
-use Rattle.text.specs.Held.{of_at, with_of, with_entry}
-use Rattle.text.specs.Rows.{row}
+-- Laws of what calls of std promise.
+use Rattle.std.proofs.Common.{◌≡◌, ℕ, ◌+◌, List, [], ◌++◌, length, take, drop, set, ap, ◌∙◌, append-nil, length-set, take_all, drop_of_length-le, arith, refl, sym, subst, Result, Ok, Err}
+use Rattle.std.specs.Prelude.{MatchResult}
+use Rattle.std.specs.Result.{IsErrAnd}
+use Rattle.arrayvec.specs.ArrayVec.{ArrayVec, with_item, with_items}
+use Rattle.std.specs.List.{refill}
+use Rattle.text.specs.Held.{of_at}
 use Rattle.text.specs.declared.report.Of.{Of}
-use Rattle.text.specs.declared.report.Op.{Op}
-use Rattle.machine.specs.Processes.{advanced, limit, advance_of}
-use Rattle.machine.specs.declared.processes.Next.{Next}
-use Rattle.machine.specs.declared.processes.Stop.{Stop}
-use Rattle.host.specs.Memory.{Memory, memory}
-use Rattle.host.specs.Moves.{progress, of_line, with_state, line_of, NextIs, pathless, went_on, TurnIs}
-use Rattle.host.specs.Requests.{progress_in, locals_in}
-use Rattle.host.specs.Tables.{Table, code_in}
-use Rattle.host.specs.declared.requests.Progress.{Progress}
-use Rattle.host.specs.declared.steps.Counts.{Counts}
-use Rattle.host.specs.declared.steps.Step.{Step}
+use Rattle.host.specs.Moves.{counted}
 
--- what is kept, array by array
-pub memory-as : {states states' ofs ofs' events events' logs logs' : List ℕ} (registers cells buckets : List ℕ) (c : Counts) →
-    states ≡ states' → ofs ≡ ofs' → events ≡ events' → logs ≡ logs' →
-    memory states ofs events logs registers cells buckets c ≡ memory states' ofs' events' logs' registers cells buckets c
-memory-as registers cells buckets c p q r s = λ i. memory (p i) (q i) (r i) (s i) registers cells buckets c
+-- ── an element of a vector, written through its slice ──
+refilled : {A : Type 0} (xs : List A) (s : ℕ) (x : A) → refill (length xs) xs (set xs s x) ≡ set xs s x
+refilled xs s x =
+    let none : drop (length (set xs s x)) xs ≡ [] = drop_of_length-le xs {i = length (set xs s x)} (omega (arith, length-set xs s x)) in
+    ap (λ d. take (length xs) (set xs s x ++ d)) none ∙ ap (take (length xs)) (append-nil (set xs s x))
+    ∙ take_all (length xs) (set xs s x) (omega (arith, length-set xs s x))
 
--- the same locals, written as what they are equal to
-pub locals-as : (states states' : List ℕ) (s n : ℕ) (x : Progress) (l m : List ℕ) →
-    states' ≡ with_state states s n x l → l ≡ m → states' ≡ with_state states s n x m
-locals-as states states' s n x l m e d = e ∙ ap (with_state states s n x) d
+pub put-item : {A : Type 0} (v : ArrayVec A) (s : ℕ) (x y : A) (zs : List A) → zs ≡ v.items → x ≡ y →
+    with_items v (set zs s x) ≡ with_item v s y
+put-item v s x y zs e d =
+    (λ i. with_items v (set (e i) s (d i))) ∙ ap (λ xs. record { items = xs }) (refilled v.items s y)
 
--- the request's `of` line is x
-module _ (ofs : List ℕ) (s rid : ℕ) (x : Of) (e : x ≡ of_at ofs s) where
-  pub line_as : (logs logs' : List ℕ) (i : ℕ) (o u : Op) → logs' ≡ with_entry logs i (record { rid = rid; num = x.count + 1; op = o }) →
-      o ≡ u → logs' ≡ with_entry logs i (line_of ofs s rid u)
-  line_as logs logs' i o u d f = d ∙ (λ j. with_entry logs i (record { rid = rid; num = (e j).count + 1; op = f j }))
+-- the `of` line in ys, which is counted, and that in zs, which is written
+pub count-as : (ofs ys zs : List Of) (s : ℕ) → ys ≡ ofs → zs ≡ ofs →
+    record { rid = (of_at zs s).rid; group = (of_at zs s).group; count = (of_at ys s).count + 1 } ≡ counted (of_at ofs s)
+count-as ofs ys zs s e d = λ i. record { rid = (of_at (d i) s).rid; group = (of_at (d i) s).group; count = (of_at (e i) s).count + 1 }
 
-  pub count-as : (ofs' : List ℕ) → ofs' ≡ with_of ofs s (of_line rid s (x.count + 1)) →
-      ofs' ≡ with_of ofs s (of_line rid s ((of_at ofs s).count + 1))
-  count-as ofs' d = d ∙ ap (λ x. with_of ofs s (of_line rid s (x.count + 1))) e
+-- ── what the exit of a `?` returns ──
+pub left-by : {T E : Type 0} (r : Result T E) (e : E) → IsErrAnd r (λ x. x ≡ e) → r ≡ Err e
+left-by (Ok x) e h = absurd h
+left-by (Err x) e h = ap Err h
 
--- ── a turn: the request in row v went on with the locals l' to stop ──
-module _ (table : Table) (s rid : ℕ) (before : Memory) (after : Counts → Memory) (r : Step) where
-  abbrev Comes : Next → Progress → List ℕ → Type 0
-  Comes n x l = NextIs n s rid x l before after r
+-- ── a result whose error was mapped ──
+module _ {T E D : Type 0} (r : Result T E) (q : Result T D) (P : E → D → Type 0) (m : MatchResult r (λ x. q ≡ Ok x) (λ e. IsErrAnd q (P e))) where
+  pub error-was : (d : D) → q ≡ Err d → (e : E) × (r ≡ Err e) × P e d
+  error-was d e = by r refl
+    where
+      by : (r' : Result T E) → r ≡ r' → (e : E) × (r ≡ Err e) × P e d
+      by (Ok x) f =
+          let n : q ≡ Ok x = subst (λ r. MatchResult r (λ x. q ≡ Ok x) (λ e. IsErrAnd q (P e))) f m in
+          let z : Ok x ≡ Err d = sym n ∙ e in absurd (cc)
+      by (Err y) f =
+          let n : IsErrAnd q (P y) = subst (λ r. MatchResult r (λ x. q ≡ Ok x) (λ e. IsErrAnd q (P e))) f m in
+          (y, f, subst (λ q. IsErrAnd q (P y)) e n)
 
-  abbrev v : List ℕ
-  v = row 12 before.states s
-
-  pub turned : (was : Progress) (l l' : List ℕ) (stop : Stop) → was ≡ progress_in v → l ≡ locals_in v →
-      advanced l' stop [] ≡ pathless (advance_of limit (code_in table was.prog) l was.at was.done) → (n : Next) → stop.next ≡ n →
-      Comes n (progress was.prog stop.at stop.done) l' → TurnIs table s rid before after r
-  turned was l l' stop d e w n f g =
-      let p : advance_of limit (code_in table was.prog) l was.at was.done ≡ went_on table v =
-      λ i. advance_of limit (code_in table (d i).prog) (e i) (d i).at (d i).done in
-      let h : Comes stop.next (progress was.prog stop.at stop.done) l' =
-      subst (λ n. Comes n (progress was.prog stop.at stop.done) l') (sym f) g in
-      let k : Comes stop.next (progress (progress_in v).prog stop.at stop.done) l' =
-      subst (λ w. Comes stop.next (progress w.prog stop.at stop.done) l') d h in
-      let m : Comes stop.next (progress (progress_in v).prog stop.at stop.done) (went_on table v).locals =
-      subst (Comes stop.next (progress (progress_in v).prog stop.at stop.done)) (ap (λ r. r.locals) w ∙ ap (λ r. r.locals) p) k in
-      record {
-        next =
-            subst (λ z. Comes z.next (progress (progress_in v).prog z.at z.done) (went_on table v).locals)
-            (ap (λ r. r.stop) w ∙ ap (λ r. r.stop) p) m;
-      }
+  pub ok-was : (x : T) → q ≡ Ok x → r ≡ Ok x
+  ok-was x e = by r refl
+    where
+      by : (r' : Result T E) → r ≡ r' → r ≡ Ok x
+      by (Ok y) f =
+          let n : q ≡ Ok y = subst (λ r. MatchResult r (λ x. q ≡ Ok x) (λ e. IsErrAnd q (P e))) f m in
+          let z : Ok y ≡ Ok x = sym n ∙ e in let d : y ≡ x = cc in f ∙ ap Ok d
+      by (Err y) f =
+          let n : IsErrAnd q (P y) = subst (λ r. MatchResult r (λ x. q ≡ Ok x) (λ e. IsErrAnd q (P e))) f m in
+          absurd (subst (λ q. IsErrAnd q (P y)) e n)

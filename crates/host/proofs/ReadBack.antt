@@ -5,6 +5,7 @@ use mathlib.Core.List.{List, [], ◌∷◌}
 use mathlib.Core.Path.{◌≡◌, refl, subst}
 use native.Mathlib.Omega.{arith}
 use lib.ListN.{length}
+use Rattle.std.specs.Prelude.{None}
 use Rattle.basics.specs.Lists.{All}
 use Rattle.basics.specs.Count.{count}
 use Rattle.basics.proofs.Lists.{all-imp}
@@ -34,7 +35,6 @@ use Rattle.model.proofs.Recorded.{recorded-wrote}
 use Rattle.machine.specs.Instance.{code_at, machine_of}
 use Rattle.machine.specs.Objects.{Content, register, store, reads, is_register, at_start}
 use Rattle.machine.specs.Processes.{limit, instr_at}
-use Rattle.cells.specs.declared.stores.Cell.TheVariants.{Never}
 use Rattle.machine.proofs.Bounds.{Word, FitContent, finds-fit, within, bounded}
 use Rattle.host.specs.Recorded.{run_of, texts_of}
 use Rattle.host.proofs.Readings.{MoveIn, ScheduleIn}
@@ -50,9 +50,9 @@ ofs-length M phase n (Response r status value ∷ es) = omega (arith, ofs-length
 pub start-fit : (o : ℕ) → FitContent (at_start o)
 start-fit o x = by (is_register o)
   where
-    by : (b : Bool) → Word (reads x (cond b (register 0) (store (λ key. Never))))
+    by : (b : Bool) → Word (reads x (cond b (register 0) (store (λ key. None))))
     by true = omega arith
-    by false = finds-fit x Never (omega arith)
+    by false = finds-fit x None (omega arith)
 
 abbrev Rid : ℕ → Type 0
 Rid r = r ≤ 65535

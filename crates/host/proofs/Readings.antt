@@ -63,7 +63,7 @@ programs-words s ps e prog at =
 -- ── the schedule ──
 abbrev pub MoveIn : Move → Type 0
 MoveIn (Arrive r prog a b) = (r ≤ 65535) × (Word prog × (Word a × Word b))
-MoveIn (Turn r) = Unit {0}
+MoveIn (Turn r) = r ≤ 65535
 
 pub record ScheduleIn (ms : List Move) : Type 0 where
   pub moves : All MoveIn ms
@@ -87,10 +87,11 @@ arrive-keeps ms ns vs g h e =
 turn-keeps : Keeps ScheduleIn (record { format = turn_line; add = add_turn })
 unfolding add_turn
 turn-keeps ms ns vs g h e =
+    let r : get_or vs 0 0 ≤ 65535 = omega (arith, range_at turn_line.largest vs 0 h (omega arith)) in
     let z : ms ++ turn_from vs ∷ [] ≡ ns = cc in
     subst ScheduleIn z
     (record {
-      moves = all_append MoveIn ms (turn_from vs ∷ []) g.moves (tt, tt);
+      moves = all_append MoveIn ms (turn_from vs ∷ []) g.moves (r, tt);
       few = omega (arith, g.few, count-append is_arrive ms (turn_from vs ∷ []));
     })
 

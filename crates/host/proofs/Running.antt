@@ -1,54 +1,31 @@
--- The loop over a schedule: the arrays hold the state of the model's host, and what is left of the schedule, run from it, gives what the
--- whole gives.
-use Prim.Native.Nat.{ℕ, zero, suc, ◌+◌, ◌-◌, ◌≤◌, ◌<◌}
-use mathlib.Core.Bool.{true, false}
-use mathlib.Core.List.{List, [], ◌∷◌}
-use mathlib.Core.Path.{◌≡◌, refl, sym, ap, subst, ◌∙◌}
-use mathlib.Core.Logic.{◌⊎◌, inl, inr}
-use native.Mathlib.Numerals.{add-one}
-use native.Mathlib.Omega.{arith}
-use lib.Dec.{ltb}
-use lib.ListN.{length, get_or, length-replicate, get_or-replicate}
-use borrow.Author.Tests.{ltb-true, ltb-false}
+-- The loop over a schedule: what is kept is the state of the model's host, and what is left of the schedule, run from it, gives what the whole
+-- gives.
+use Rattle.std.proofs.Common.{◌≡◌, ℕ, zero, suc, ◌+◌, ◌≤◌, ◌<◌, List, [], ◌∷◌, length, map, get_or, drop, refl, sym, ap, subst, ◌∙◌, arith, add-one, drop_of_length-le, Some, None}
+use Rattle.std.proofs.lemmas.List.{length-map}
+use lib.ListN.{length-replicate, get_or-replicate}
+use Rattle.std.specs.Prelude.{slice_get}
 use Rattle.basics.specs.Lists.{All}
 use Rattle.basics.specs.Count.{count}
-use Rattle.basics.specs.Firsts.{firsts}
-use Rattle.basics.proofs.Firsts.{firsts-length}
-use Rattle.basics.proofs.Tests.{by_bool}
-use Rattle.text.specs.Held.{event_at, move_at}
-use Rattle.text.specs.Rows.{row}
+use Rattle.basics.proofs.Tests.{clash}
+use Rattle.text.specs.Programs.{known}
+use Rattle.text.specs.Schedule.{is_arrive}
+use Rattle.text.specs.Trace.{is_request, is_response}
 use Rattle.text.specs.declared.programs.Program.{Program}
+use Rattle.text.specs.declared.programs.Programs.{Programs}
 use Rattle.text.specs.declared.schedule.Move.{Move}
+use Rattle.text.specs.declared.schedule.Schedule.{Schedule}
 use Rattle.text.specs.declared.trace.Event.TheVariants.{Request, Response}
 use Rattle.text.specs.declared.trace.Event.{Event}
+use Rattle.text.specs.Held.{moves_in}
+use Rattle.text.proofs.Ranges.{events-length}
 use Rattle.model.specs.Host.{Host, empty, broken, on, Result, fault, go_on, stepped}
 use Rattle.model.proofs.Faithful.{Faithful, faithful-empty}
-use Rattle.model.proofs.LineScans.{from, firsts-from, from_next, from_end}
-use Rattle.text.specs.Programs.{known}
-use Rattle.text.specs.Trace.{is_request, is_response}
-use Rattle.text.specs.Schedule.{is_arrive}
-use Rattle.text.proofs.Ranges.{events-length}
-use Rattle.machine.specs.Held.{Objects, ObjectsHeld}
+use Rattle.machine.specs.Held.{ObjectsHeld}
 use Rattle.machine.specs.Objects.{Content}
-use Rattle.replay.specs.Arrays.{arrays}
-use Rattle.host.specs.Memory.{Memory}
-use Rattle.host.specs.Requests.{is_open_in, standing_in}
-use Rattle.host.specs.Runs.{
-  seen_slot,
-  rids_of,
-  M,
-  RequestsIs,
-  EventsIs,
-  LinesIs,
-  RidIn,
-  moves_in,
-  ran_from,
-  ran,
-  Ready,
-  Finished,
-}
-use Rattle.host.specs.declared.requests.Standing.TheVariants.{Missing, Idle, Open}
-use Rattle.host.specs.declared.requests.Standing.{Standing}
+use Rattle.machine.specs.declared.objects.Objects.{Objects}
+use Rattle.host.specs.Runs.{full_table, seen_slot, rids_of, M, RequestsIs, RidIn, ran_from, ran, Ready, Finished}
+use Rattle.host.specs.Steps.{lines_of}
+use Rattle.host.specs.declared.runs.Run.{Run}
 
 -- ── counts of a trace ──
 rids-length : (es : List Event) → length (rids_of es) ≡ count is_request es
@@ -56,164 +33,119 @@ rids-length [] = refl
 rids-length (Request r prog a b ∷ es) = omega (arith, rids-length es)
 rids-length (Response r status value ∷ es) = omega (arith, rids-length es)
 
--- ── what a turn finds in a slot ──
-module _ (states : List ℕ) where
-  abbrev pub Finds : Standing → ℕ → Type 0
-  Finds Missing slot = (slot ≡ 0) ⊎ (64 < slot)
-  Finds Idle slot = (s : ℕ) × (slot ≡ suc s) × (is_open_in (row 12 states s) ≡ false)
-  Finds (Open s) slot = (slot ≡ suc s) × (s < 64) × (is_open_in (row 12 states s) ≡ true)
+-- ── lines of a schedule ──
+line-next : (ms : List Move) (i : ℕ) (m : Move) → slice_get ms i ≡ Some m → drop i ms ≡ m ∷ drop (suc i) ms
+line-next [] i m e = clash (cc)
+line-next (n ∷ ms) zero m e = let d : n ≡ m = cc in ap (λ n. n ∷ ms) d
+line-next (n ∷ ms) (suc i) m e = line-next ms i m e
 
-  pub finds : (slot : ℕ) (x : Standing) → x ≡ standing_in states slot → Finds x slot
-  unfolding standing_in
-  finds zero x e = subst (λ x. Finds x zero) (sym e) (inl refl)
-  finds (suc s) x e =
-      let v = row 12 states s in
-      by_bool (ltb s 64)
-      (λ t. by_bool (is_open_in v)
-      (λ o.
-      let d : x ≡ Open s = e ∙ rw (t, o) refl in
-      subst (λ x. Finds x (suc s)) (sym d) (refl, ltb-true s 64 t, o))
-      (λ o.
-      let d : x ≡ Idle = e ∙ rw (t, o) refl in
-      subst (λ x. Finds x (suc s)) (sym d) (s, refl, o)))
-      (λ t.
-      let d : x ≡ Missing = e ∙ rw t refl in
-      let h = ltb-false s 64 t in
-      subst (λ x. Finds x (suc s)) (sym d) (inr (omega (arith, h))))
-
--- the lines of a schedule from line i on, where lines count from 0
-abbrev pub left : (moves arrivals : List ℕ) (n i : ℕ) → List Move
-left moves arrivals n i = from (move_at moves arrivals) i (n - i)
-
-abbrev pub whole : (opening : ℕ → Content) (table : List Program) (moves arrivals : List ℕ) (n : ℕ) → Result (Host (M table))
-whole opening table moves arrivals n = ran opening table (moves_in moves arrivals n)
-
--- the objects behind k operations, in arrays and in the model
+-- the objects behind k operations, as they are kept and in the model
 pub record ObjectsIs (o : Objects) (k : ℕ) (contents : ℕ → Content) (operations : ℕ) : Type 0 where
   pub counted : operations ≡ k
   pub held : ObjectsHeld o contents
-  pub few : o.used ≤ 1024 + k
+  pub few : o.stores.used ≤ 1024 + k
 
--- the arrays hold the state of a host, which is one that a run from these contents comes to
-pub record HostHeld (opening : ℕ → Content) (table : List Program) (slots : List ℕ) (x : Memory) (host : Host (M table)) : Type 0 where
-  pub requests : RequestsIs table slots x.states x.batch.ofs x.batch.m x.batch.n host.state.phase host.trace
-  pub events_held : EventsIs x.batch.events x.batch.t host.trace
-  pub lines : LinesIs x.batch.logs x.batch.n host.state.logs
-  pub objects : ObjectsIs x.objects x.batch.n host.state.contents host.operations
+-- the state of a host is kept, which is one that a run from these contents comes to
+pub record HostHeld (opening : ℕ → Content) (table : List Program) (x : Run) (host : Host (M table)) : Type 0 where
+  pub requests : RequestsIs table x.slots x.states.items x.ofs.items (length x.log.items) host.state.phase host.trace
+  pub events_held : x.trace.items ≡ host.trace
+  pub lines : (o : ℕ) → host.state.logs o ≡ lines_of x.log.items o
+  pub objects : ObjectsIs x.objects (length x.log.items) host.state.contents host.operations
   pub faithful : Faithful (M table) (known table) 16 opening host.state host.trace
 
-module _ (opening : ℕ → Content) (table : List Program) (moves arrivals : List ℕ) (n : ℕ) where
+module _ (opening : ℕ → Content) (table : List Program) (moves : List Move) where
+  abbrev pub whole : Result (Host (M table))
+  whole = ran opening table moves
+
   -- before line i, which counts from 0
-  pub record Running (i : ℕ) (slots : List ℕ) (x : Memory) : Type 0 where
-    pub within : i ≤ n
-    pub scheduled : n ≤ 9362
-    pub moves_room : length moves ≡ 9362
+  pub record Running (i : ℕ) (x : Run) : Type 0 where
     pub host : Host (M table)
-    pub goes : ran_from table (suc i) (left moves arrivals n i) host ≡ whole opening table moves arrivals n
-    pub rids : All RidIn (left moves arrivals n i)
-    pub to_come : x.batch.m + count is_arrive (left moves arrivals n i) ≤ 64
-    pub held : HostHeld opening table slots x host
+    pub goes : ran_from table (suc i) (drop i moves) host ≡ whole
+    pub rids : All RidIn (drop i moves)
+    pub to_come : length x.ofs.items + count is_arrive (drop i moves) ≤ 64
+    pub held : HostHeld opening table x host
 
-  -- before the first line
-  pub run-start : (slots states ofs events logs : List ℕ) (o : Objects) → Ready moves arrivals n slots states ofs events logs o →
-      ObjectsHeld o opening → Running 0 slots (record { states = states; batch = arrays events 0 ofs 0 logs 0; objects = o })
-  unfolding firsts
-  run-start slots states ofs events logs o h held-there =
-      let z : n - 0 ≡ n = omega arith in
-      let all : left moves arrivals n 0 ≡ moves_in moves arrivals n = ap (from (move_at moves arrivals) 0) z ∙ sym
-      (firsts-from (move_at moves arrivals) n) in
-      let blank : (r : ℕ) → r < 65536 → get_or slots r 0 ≡ 0 =
-      λ r i. ap (λ slots. get_or slots r 0) h.slots_blank ∙ get_or-replicate 65536 r 0 0 i in
-      record {
-        within = omega arith;
-        scheduled = h.scheduled.lines;
-        moves_room = h.scheduled.moves_room;
-        host = empty (M table) opening;
-        goes = ap (λ ms. ran_from table 1 ms (empty (M table) opening)) all;
-        rids = subst (All RidIn) (sym all) h.scheduled.rids;
-        to_come = omega (arith, h.scheduled.arrivals_few, ap (count is_arrive) all);
-        held =
-            record {
-              requests =
-                  record {
-                    slots_room = ap length h.slots_blank ∙ length-replicate {A = ℕ} 65536 0;
-                    states_room = h.states_room;
-                    ofs_room = h.ofs_room;
-                    few = omega arith;
-                    phases = λ r i. sym (ap (seen_slot states ofs) (blank r i));
-                    owner = λ r s i d. absurd (omega (arith, blank r i, d));
-                    rows = λ s i. absurd (omega (arith, i));
-                    arrived = refl;
-                  };
-              events_held = record { room = h.events_room; few = omega arith; held = refl };
-              lines = record { room = h.logs_room; few = omega arith; held = λ o. refl };
-              objects = record { counted = refl; held = held-there; few = omega (arith, h.few_cells) };
-              faithful = faithful-empty (M table) (known table) 16 opening;
-            };
-      }
+-- before the first line
+pub run-start : (opening : ℕ → Content) (programs : Programs) (schedule : Schedule) (x : Run) → Ready programs schedule x →
+    ObjectsHeld x.objects opening → Running opening (full_table programs) (moves_in schedule) 0 x
+run-start opening programs schedule x h held =
+    let table = full_table programs in
+    let empty-slot : (r : ℕ) → r < 65536 → get_or x.slots r 0 ≡ 0 =
+    λ r i. ap (λ x. get_or x.slots r 0) h.nothing ∙ get_or-replicate 65536 r 0 0 i in
+    let ofs : length x.ofs.items ≡ 0 = ap (λ x. length x.ofs.items) h.nothing in
+    let states : length x.states.items ≡ 0 = ap (λ x. length x.states.items) h.nothing in
+    let log : length x.log.items ≡ 0 = ap (λ x. length x.log.items) h.nothing in
+    record {
+      host = empty (M table) opening;
+      goes = refl;
+      rids = h.scheduled.rids;
+      to_come = omega (arith, h.scheduled.arrivals_few, ofs);
+      held =
+          record {
+            requests =
+                record {
+                  slots_room = ap (λ x. length x.slots) h.nothing ∙ length-replicate {A = ℕ} 65536 0;
+                  as_many = omega (arith, ofs, states);
+                  few = omega (arith, ofs);
+                  phases = λ r i. sym (ap (seen_slot x.states.items x.ofs.items) (empty-slot r i));
+                  owner = λ r s i d. absurd (omega (arith, empty-slot r i, d));
+                  rows = λ s i. absurd (omega (arith, i, ofs));
+                  arrived = sym (ap (λ x. map (λ x. x.rid) x.ofs.items) h.nothing);
+                };
+            events_held = ap (λ x. x.trace.items) h.nothing;
+            lines = λ o. sym (ap (λ x. lines_of x.log.items o) h.nothing);
+            objects = record { counted = sym log; held = held; few = omega (arith, h.few_cells) };
+            faithful = faithful-empty (M table) (known table) 16 opening;
+          };
+    }
 
-module _ {opening : ℕ → Content} {table : List Program} {moves arrivals : List ℕ} {n i : ℕ} {slots : List ℕ} {x : Memory}
-    (g : Running opening table moves arrivals n i slots x) where
-  abbrev move : ℕ → Move
-  move = move_at moves arrivals
-
+module _ {opening : ℕ → Content} {table : List Program} {moves : List Move} {i : ℕ} {x : Run} (g : Running opening table moves i x) where
   abbrev next : List Move
-  next = left moves arrivals n (i + 1)
+  next = drop (i + 1) moves
 
   -- at the end
-  pub run_ends : n ≤ i → Finished opening table moves arrivals n slots x
+  pub run_ends : length moves ≤ i → Finished opening table moves x
   run_ends h =
       record {
         host = g.host;
-        made_it = sym g.goes ∙ ap (λ ms. ran_from table (suc i) ms g.host) (from_end move h);
+        made_it = sym g.goes ∙ ap (λ ms. ran_from table (suc i) ms g.host) (drop_of_length-le moves {i = i} h);
         requests = g.held.requests;
         events_held = g.held.events_held;
         lines = g.held.lines;
       }
 
-  pub requests-are : count is_request g.host.trace ≡ x.batch.m
-  requests-are = sym (rids-length g.host.trace) ∙ ap length g.held.requests.arrived ∙ firsts-length _ x.batch.m
+  pub requests-are : count is_request g.host.trace ≡ length x.ofs.items
+  requests-are = sym (rids-length g.host.trace) ∙ ap length g.held.requests.arrived ∙ length-map x.ofs.items _
 
-  pub events-are : x.batch.t ≡ count is_request g.host.trace + count is_response g.host.trace
-  events-are = sym (firsts-length (event_at x.batch.events) x.batch.t) ∙ ap length g.held.events_held.held ∙ events-length g.host.trace
+  pub events-are : length x.trace.items ≡ count is_request g.host.trace + count is_response g.host.trace
+  events-are = ap length g.held.events_held ∙ events-length g.host.trace
 
-  module _ (h : i < n) where
-    split : left moves arrivals n i ≡ move i ∷ next
-    split = from_next move h
+  module _ {m : Move} (e : slice_get moves i ≡ Some m) where
+    split : drop i moves ≡ m ∷ next
+    split = line-next moves i m e ∙ ap (λ j. m ∷ drop j moves) (sym (add-one i))
 
-    stepping :
-        go_on (M table) (known table) 1024 (suc i) (stepped (M table) (known table) 1024 g.host (move i)) (ran_from table (suc (suc i)) next)
-        ≡ whole opening table moves arrivals n
+    stepping : go_on (M table) (known table) 1024 (suc i) (stepped (M table) (known table) 1024 g.host m) (ran_from table (suc (suc i)) next)
+        ≡ whole opening table moves
     stepping = sym (ap (λ ms. ran_from table (suc i) ms g.host) split) ∙ g.goes
 
-    pub breaks : stepped (M table) (known table) 1024 g.host (move i) ≡ broken → whole opening table moves arrivals n ≡ fault 14 (i + 1)
+    pub breaks : stepped (M table) (known table) 1024 g.host m ≡ broken → whole opening table moves ≡ fault 14 (i + 1)
     breaks e =
         sym stepping ∙ ap (λ w. go_on (M table) (known table) 1024 (suc i) w (ran_from table (suc (suc i)) next)) e
         ∙ ap (fault 14) (sym (add-one i))
 
-    goes-next : (h' : Host (M table)) → stepped (M table) (known table) 1024 g.host (move i) ≡ on h' →
-        ran_from table (suc (i + 1)) next h' ≡ whole opening table moves arrivals n
-    goes-next h' e =
-        ap (λ j. ran_from table (suc j) next h') (add-one i)
+    goes-next : (h : Host (M table)) → stepped (M table) (known table) 1024 g.host m ≡ on h →
+        ran_from table (suc (i + 1)) next h ≡ whole opening table moves
+    goes-next h e =
+        ap (λ j. ran_from table (suc j) next h) (add-one i)
         ∙ sym (ap (λ w. go_on (M table) (known table) 1024 (suc i) w (ran_from table (suc (suc i)) next)) e) ∙ stepping
 
-    pub all-rids : All RidIn (move i ∷ next)
+    pub all-rids : All RidIn (m ∷ next)
     all-rids = subst (All RidIn) split g.rids
 
-    pub to-come : x.batch.m + count is_arrive (move i ∷ next) ≤ 64
-    to-come = subst (λ ms. x.batch.m + count is_arrive ms ≤ 64) split g.to_come
+    pub to-come : length x.ofs.items + count is_arrive (m ∷ next) ≤ 64
+    to-come = subst (λ ms. length x.ofs.items + count is_arrive ms ≤ 64) split g.to_come
 
     -- behind the line, from another state of the host
-    pub run_on : (host : Host (M table)) → stepped (M table) (known table) 1024 g.host (move i) ≡ on host → {slots' : List ℕ} {y : Memory} →
-        y.batch.m + count is_arrive next ≤ 64 → HostHeld opening table slots' y host → Running opening table moves arrivals n (i + 1) slots' y
-    run_on host e few held =
-        record {
-          within = omega arith;
-          scheduled = g.scheduled;
-          moves_room = g.moves_room;
-          host = host;
-          goes = goes-next host e;
-          rids = all-rids.1;
-          to_come = few;
-          held = held;
-        }
+    pub run_on : (host : Host (M table)) → stepped (M table) (known table) 1024 g.host m ≡ on host → {y : Run} →
+        length y.ofs.items + count is_arrive next ≤ 64 → HostHeld opening table y host → Running opening table moves (i + 1) y
+    run_on host e few held = record { host = host; goes = goes-next host e; rids = all-rids.1; to_come = few; held = held }

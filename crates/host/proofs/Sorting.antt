@@ -1,20 +1,47 @@
 -- Laws of the log by rising object: no line is counted twice, so there is room for all.
-use Prim.Native.Nat.{ℕ, zero, suc, ◌+◌, ◌≤◌, ◌<◌}
-use mathlib.Core.List.{List, [], ◌∷◌, ◌++◌, append_assoc, append-nil}
-use mathlib.Core.Path.{◌≡◌, refl, sym, ap, subst, ◌∙◌}
-use native.Mathlib.Numerals.{add-one}
-use native.Mathlib.Omega.{arith}
-use lib.ListN.{length, length-append}
-use borrow.Author.Tests.{ne_eqb}
-use Rattle.basics.specs.Firsts.{firsts}
-use Rattle.basics.proofs.Firsts.{firsts-length}
+use Rattle.std.proofs.Common.{◌≡◌, ℕ, zero, suc, ◌+◌, ◌≤◌, ◌<◌, List, [], ◌∷◌, ◌++◌, length, get_or, take, drop, refl, sym, ap, ◌∙◌, arith, add-one, append_assoc, append-nil, length-append, take-append-drop}
+use borrow.Author.Tests.{ne_eqb, eq-eqb}
+use lib.Seq.{take-suc}
 use Rattle.basics.proofs.Tests.{by_eq}
-use Rattle.text.specs.Held.{entry_at}
 use Rattle.text.specs.declared.report.Entry.{Entry}
 use Rattle.model.specs.Batch.{log_of}
 use Rattle.model.specs.Host.{logs_from}
-use Rattle.host.specs.Steps.{lines_of, RoomFor, Picked, Sorted}
+use Rattle.model.proofs.Report.{log-append}
+use Rattle.host.specs.Steps.{lines_of}
 
+-- ── the lines of one object ──
+-- line i, a blank one past the last
+abbrev pub line_at : List Entry → ℕ → Entry
+line_at log i = get_or log i (record { rid = 0; num = 0; op = record { object = 0; kind = 0; key = 0; value = 0 } })
+
+-- line i more
+module _ (log : List Entry) (object i : ℕ) (h : i < length log) where
+  abbrev l : Entry
+  l = line_at log i
+
+  more : log_of object (take (i + 1) log) ≡ log_of object (take i log) ++ log_of object (l ∷ [])
+  more =
+      ap (λ j. log_of object (take j log)) (add-one i) ∙ ap (log_of object) (take-suc log i _ h) ∙ log-append object (take i log) (l ∷ [])
+
+  pub more-own : l.op.object ≡ object → log_of object (take (i + 1) log) ≡ log_of object (take i log) ++ l ∷ []
+  more-own d = more ∙ rw (eq-eqb l.op.object object d) refl
+
+  pub more-other : (l.op.object ≡ object → ⊥) → log_of object (take (i + 1) log) ≡ log_of object (take i log)
+  more-other d = more ∙ rw (ne_eqb l.op.object object d) (append-nil (log_of object (take i log)))
+
+  pub own-fits : l.op.object ≡ object → length (log_of object (take i log)) + 1 ≤ length (log_of object log)
+  own-fits d =
+      let all : log_of object log ≡ log_of object (take (i + 1) log) ++ log_of object (drop (i + 1) log) =
+      ap (log_of object) (sym (take-append-drop (i + 1) log)) ∙ log-append object (take (i + 1) log) (drop (i + 1) log) in
+      omega (
+        arith,
+        ap length all,
+        ap length (more-own d),
+        length-append (log_of object (take (i + 1) log)) (log_of object (drop (i + 1) log)),
+        length-append (log_of object (take i log)) (l ∷ []),
+      )
+
+-- ── all objects ──
 -- one object more
 logs-next : (f : ℕ → List Entry) (k m : ℕ) → logs_from f k (suc m) ≡ logs_from f k m ++ f (k + m)
 logs-next f k zero = let e : k ≡ k + 0 = omega arith in append-nil (f k) ∙ ap f e
@@ -53,48 +80,18 @@ pub lines-few : (ls : List Entry) (k m : ℕ) → lines_in ls k m ≤ length ls
 lines-few [] k m = omega (arith, nothing-in k m)
 lines-few (l ∷ ls) k m = omega (arith, once-in l ls k m, lines-few ls k m)
 
--- ── the loop over the objects ──
-module _ (logs : List ℕ) (n : ℕ) where
-  pub no-object : (out : List ℕ) → length out ≡ 6144 → Sorted logs n 0 out 0
-  unfolding firsts
-  no-object out h = record { size = h; count = refl; lines = refl }
+module _ (log : List Entry) (m : ℕ) where
+  pub object-next : logs_from (lines_of log) 0 (m + 1) ≡ logs_from (lines_of log) 0 m ++ log_of m log
+  object-next =
+      let e : 0 + m ≡ m = omega arith in
+      ap (logs_from (lines_of log) 0) (add-one m) ∙ logs-next (lines_of log) 0 m
+      ∙ ap (λ j. logs_from (lines_of log) 0 m ++ lines_of log j) e
 
-  module _ (m : ℕ) (out : List ℕ) (at : ℕ) (g : Sorted logs n m out at) where
-    next : logs_from (lines_of logs n) 0 (m + 1) ≡ logs_from (lines_of logs n) 0 m ++ lines_of logs n m
-    next =
-        let e : 0 + m ≡ m = omega arith in
-        ap (logs_from (lines_of logs n) 0) (add-one m) ∙ logs-next (lines_of logs n) 0 m
-        ∙ ap (λ j. logs_from (lines_of logs n) 0 m ++ lines_of logs n j) e
-
-    pub room-left : n ≤ 1024 → RoomFor logs n m out at
-    room-left h =
-        record {
-          size = g.size;
-          room =
-              omega (
-                arith,
-                g.count,
-                lines-few (firsts (entry_at logs) n) 0 (m + 1),
-                ap length next,
-                length-append (logs_from (lines_of logs n) 0 m) (lines_of logs n m),
-                firsts-length (entry_at logs) n,
-              );
-        }
-
-    pub one-object : (out' : List ℕ) (at' : ℕ) → Picked logs n m out at out' at' → Sorted logs n (m + 1) out' at'
-    one-object out' at' p =
-        record {
-          size = p.size;
-          count =
-              omega (
-                arith,
-                p.count,
-                g.count,
-                ap length next,
-                length-append (logs_from (lines_of logs n) 0 m) (lines_of logs n m),
-              );
-          lines = p.lines ∙ ap (λ ls. ls ++ lines_of logs n m) g.lines ∙ sym next;
-        }
-
-    pub all-objects : m ≤ 16 → 16 ≤ m → Sorted logs n 16 out at
-    all-objects h k = let e : m ≡ 16 = omega arith in subst (λ j. Sorted logs n j out at) e g
+  pub room-left : length (logs_from (lines_of log) 0 m) + length (log_of m log) ≤ length log
+  room-left =
+      omega (
+        arith,
+        lines-few log 0 (m + 1),
+        ap length object-next,
+        length-append (logs_from (lines_of log) 0 m) (log_of m log),
+      )

@@ -1,80 +1,90 @@
--- A turn of an open request, whatever it comes to: it breaks row 14, or the arrays hold the state of the model's host behind it.
-use Prim.Native.Nat.{ℕ, ◌+◌, ◌%◌, ◌<◌}
-use mathlib.Core.List.{List}
-use mathlib.Core.Path.{◌≡◌, refl, sym, subst, ◌∙◌}
-use lib.Dec.{ltb}
-use lib.ListN.{length, get_or}
-use borrow.Author.Tests.{ltb-true, ltb-false}
-use Rattle.basics.proofs.Tests.{clash, by_bool}
-use Rattle.text.specs.Held.{move_at}
+-- A line of the schedule, whatever it is: it breaks row 14, or what is kept is the state of the model's host behind it.
+use Rattle.std.proofs.Common.{◌≡◌, ℕ, ◌+◌, ◌≤◌, ◌⊎◌, List, refl, sym, subst, arith, Result, Ok, Err, Some}
+use Rattle.std.specs.Prelude.{slice_get}
 use Rattle.text.specs.declared.programs.Program.{Program}
-use Rattle.text.specs.declared.schedule.Move.TheVariants.{Turn}
+use Rattle.text.specs.declared.programs.Programs.{Programs}
+use Rattle.text.specs.declared.schedule.Move.TheVariants.{Arrive, Turn}
+use Rattle.text.specs.declared.schedule.Move.{Move}
 use Rattle.model.specs.Host.{fault}
-use Rattle.machine.specs.Instance.{code_at}
 use Rattle.machine.specs.Objects.{Content}
 use Rattle.machine.specs.declared.processes.Next.TheVariants.{Operation, Reply, Cut}
 use Rattle.machine.specs.declared.processes.Next.{Next}
-use Rattle.host.specs.Memory.{Memory}
-use Rattle.host.specs.Moves.{NextIs, TurnIs}
-use Rattle.host.specs.Requests.{progress_in, standing_in}
-use Rattle.host.specs.Tables.{Table, code_in}
-use Rattle.host.specs.declared.requests.Standing.TheVariants.{Open}
-use Rattle.host.specs.declared.steps.Counts.{Counts}
-use Rattle.host.specs.declared.steps.Step.TheVariants.{Broken, On}
-use Rattle.host.specs.declared.steps.Step.{Step}
+use Rattle.host.specs.Moves.{NextIs, StandIs, StepIs, StepRoom, slot_in}
+use Rattle.host.specs.Requests.{Stands}
+use Rattle.host.specs.Runs.{Known, full_table}
+use Rattle.host.specs.declared.requests.Standing.TheVariants.{Missing, Idle, Open}
+use Rattle.host.specs.declared.requests.Standing.{Standing}
+use Rattle.host.specs.declared.runs.Breaks.{Breaks}
+use Rattle.host.specs.declared.runs.Run.{Run}
+use Rattle.host.proofs.Arriving.{arrival-room, arrival-breaks, arrival-on}
 use Rattle.host.proofs.Operating.{operation-full, operates-on}
 use Rattle.host.proofs.Replying.{replies-on}
 use Rattle.host.proofs.Running.{whole, Running}
+use Rattle.host.proofs.Tables.{full-length, full-code}
 use Rattle.host.proofs.Turning as turn
 
--- the counts of a turn that went on
-counts-are : {c d : Counts} {r : Step} → r ≡ On c → r ≡ On d → c ≡ d
-counts-are p q = cc
+module _ {opening : ℕ → Content} {programs : Programs} (known : Known programs) {moves : List Move} {i : ℕ} {x : Run}
+    (g : Running opening (full_table programs) moves i x) where
+  abbrev U : List Program
+  U = full_table programs
 
-module _ {opening : ℕ → Content} {U : List Program} {moves arrivals : List ℕ} {n i : ℕ} {slots : List ℕ} {x : Memory}
-    (g : Running opening U moves arrivals n i slots x) (h : i < n) {r : ℕ} (e : Turn r ≡ move_at moves arrivals i)
-    {s : ℕ} (d : Open s ≡ standing_in x.states (get_or slots (r % 65536) 0)) where
-  abbrev Goes_on : Memory → Type 0
-  Goes_on y = Running opening U moves arrivals n (i + 1) slots y
+  -- ── what a line asks for ──
+  pub step-room : (m : Move) → slice_get moves i ≡ Some m → StepRoom m x
+  step-room (Arrive rid prog a b) e = arrival-room g e
+  step-room (Turn rid) e = λ s d. turn.turn-room g e d (omega (arith, full-length programs known, known.few))
 
-  module _ (table : Table) (same : code_at U (progress_in (turn.v g h e d)).prog ≡ code_in table (progress_in (turn.v g h e d)).prog)
-      (after : Counts → Memory) (q : Step) where
-    abbrev Comes : Next → Type 0
-    Comes y = NextIs y s r (turn.now g h e d table same) (turn.went g h e d table same).locals x after q
+  abbrev Breaks_here : Type 0
+  Breaks_here = whole opening U moves ≡ fault 14 (i + 1)
 
-    next-breaks : q ≡ Broken → (y : Next) → (turn.went g h e d table same).stop.next ≡ y → Comes y →
-        whole opening U moves arrivals n ≡ fault 14 (i + 1)
-    next-breaks b (Operation o into) z f =
-        by_bool (ltb x.batch.n 1024)
-        (λ t. let w = f.operates (ltb-true x.batch.n 1024 t) in let d : Broken ≡ On w.0 = sym b ∙ w.1 in clash (cc))
-        (λ t. operation-full g h e d table same o into z (ltb-false x.batch.n 1024 t))
-    next-breaks b (Reply value) z f = let d : Broken ≡ On f.counts = sym b ∙ f.on in clash (cc)
-    next-breaks b Cut z f = let d : Broken ≡ On f.counts = sym b ∙ f.on in clash (cc)
+  module _ (y : Run) where
+    abbrev Goes_on : Type 0
+    Goes_on = Running opening U moves (i + 1) y
 
-    next-on : (c : Counts) → q ≡ On c → (y : Next) → (turn.went g h e d table same).stop.next ≡ y → Comes y → Goes_on (after c)
-    next-on c b (Operation o into) z f =
-        by_bool (ltb x.batch.n 1024)
-        (λ t.
-        let few = ltb-true x.batch.n 1024 t in
-        let w = f.operates few in
-        let u = w.2 in
-        subst (λ c. Goes_on (after c)) (counts-are w.1 b)
-        (subst Goes_on (sym u.rest) (operates-on g h e d table same o into z few u.left u.answer u.performs)))
-        (λ t. let w : Broken ≡ On c = sym (f.full (ltb-false x.batch.n 1024 t)) ∙ b in clash (cc))
-    next-on c b (Reply value) z f =
-        subst (λ c. Goes_on (after c)) (counts-are f.on b)
-        (subst Goes_on (sym f.rest) (replies-on g h e d table same 0 value (turn.advances g h e d table same (Reply value) z)))
-    next-on c b Cut z f =
-        subst (λ c. Goes_on (after c)) (counts-are f.on b)
-        (subst Goes_on (sym f.rest) (replies-on g h e d table same 1 0 (turn.advances g h e d table same Cut z)))
+    -- ── a turn of an open request ──
+    module _ {r : ℕ} (e : slice_get moves i ≡ Some (Turn r)) {s : ℕ} (d : Stands x.states.items (slot_in x.slots r) (Open s)) where
+      abbrev Comes : Next → Result Unit Breaks → Type 0
+      Comes n q = NextIs n s r (turn.now g e d programs.table (full-code programs known)) x y q
 
-  module _ {table : Table} (held : (prog : ℕ) → prog < length U → code_at U prog ≡ code_in table prog)
-      {after : Counts → Memory} {q : Step} (f : TurnIs table s r x after q) where
-    same : code_at U (progress_in (turn.v g h e d)).prog ≡ code_in table (progress_in (turn.v g h e d)).prog
-    same = held (progress_in (turn.v g h e d)).prog (g.held.requests.rows s (turn.owned g h e d).0).program
+      next-breaks : (n : Next) → (turn.went g e d programs.table (full-code programs known)).stop.next ≡ n → (b : Breaks) →
+          Comes n (Err b) → Breaks_here
+      next-breaks (Operation o into) z b f = operation-full g e d programs.table (full-code programs known) o into z f
+      next-breaks (Reply value) z b f = absurd (cc)
+      next-breaks Cut z b f = absurd (cc)
 
-    pub turn-breaks : q ≡ Broken → whole opening U moves arrivals n ≡ fault 14 (i + 1)
-    turn-breaks b = next-breaks table same after q b (turn.went g h e d table same).stop.next refl f.next
+      next-on : (n : Next) → (turn.went g e d programs.table (full-code programs known)).stop.next ≡ n → (u : Unit {0}) →
+          Comes n (Ok u) → Goes_on
+      next-on (Operation o into) z u f =
+          subst (Running opening U moves (i + 1)) (sym f.rest)
+          (operates-on g e d programs.table (full-code programs known) o into z f.few f.left f.answer f.performs)
+      next-on (Reply value) z u f =
+          subst (Running opening U moves (i + 1)) (sym f.1)
+          (replies-on g e d programs.table (full-code programs known) 0 value
+          (turn.advances g e d programs.table (full-code programs known) (Reply value) z))
+      next-on Cut z u f =
+          subst (Running opening U moves (i + 1)) (sym f.1)
+          (replies-on g e d programs.table (full-code programs known) 1 0
+          (turn.advances g e d programs.table (full-code programs known) Cut z))
 
-    pub turn_on : (c : Counts) → q ≡ On c → Goes_on (after c)
-    turn_on c b = next-on table same after q c b (turn.went g h e d table same).stop.next refl f.next
+    -- ── a turn ──
+    module _ {r : ℕ} (e : slice_get moves i ≡ Some (Turn r)) where
+      stand-breaks : (z : Standing) → Stands x.states.items (slot_in x.slots r) z → (b : Breaks) →
+          StandIs z programs.table r x y (Err b) → Breaks_here
+      stand-breaks Missing d b f = turn.turn-missing g e d
+      stand-breaks Idle d b f = absurd (cc)
+      stand-breaks (Open s) d b f = next-breaks e d _ refl b f
+
+      stand-on : (z : Standing) → Stands x.states.items (slot_in x.slots r) z → (u : Unit {0}) →
+          StandIs z programs.table r x y (Ok u) → Goes_on
+      stand-on Missing d u f = absurd (cc)
+      stand-on Idle d u f = subst (Running opening U moves (i + 1)) (sym f.1) (turn.turn-idle g e d)
+      stand-on (Open s) d u f = next-on e d _ refl u f
+
+    -- ── a line ──
+    pub step-breaks : (m : Move) → slice_get moves i ≡ Some m → (b : Breaks) → StepIs programs m x y (Err b) → Breaks_here
+    step-breaks (Arrive r prog a b) e z f =
+        arrival-breaks g e (subst (λ n. (n ≤ prog) ⊎ (slot_in x.slots r ≡ 0 → ⊥)) (sym (full-length programs known)) f)
+    step-breaks (Turn r) e z f = stand-breaks e f.standing f.found z f.so
+
+    pub step-on : (m : Move) → slice_get moves i ≡ Some m → (u : Unit {0}) → StepIs programs m x y (Ok u) → Goes_on
+    step-on (Arrive r prog a b) e u f = arrival-on g e (omega (arith, f.0, full-length programs known)) f.1 y f.2
+    step-on (Turn r) e u f = stand-on e f.standing f.found u f.so

@@ -6,7 +6,5 @@ pub mod Printed
 -- What private functions promise
 pub mod Steps
 pub mod Requests
-pub mod Tables
-pub mod Memory
 pub mod Moves
 pub mod Runs

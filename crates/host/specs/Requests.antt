@@ -1,29 +1,20 @@
--- The requests of a run as they stand in arrays: a slot for each rid, and for each slot a row of numbers. What private functions promise.
-use Rattle.std.specs.Prelude.{ℕ, zero, suc, Bool, cond, not, List, [], ◌∷◌, eqb, ltb, get_or}
-use Rattle.text.specs.Formats.{most_requests}
-use Rattle.text.specs.Rows.{row}
-use Rattle.host.specs.declared.requests.Progress.{Progress}
+-- The requests of a run: a slot for each rid, and for each slot a state and an `of` line. What private functions promise.
+use Rattle.std.specs.Prelude.{ℕ, suc, ◌-◌, ◌<◌, ◌≤◌, ◌≡◌, ◌⊎◌, true, false, List, [], length, slice_index_or}
+use Rattle.machine.specs.Processes.{Advanced, advanced}
 use Rattle.host.specs.declared.requests.Standing.{Standing}
 use Rattle.host.specs.declared.requests.Standing.TheVariants.{Missing, Idle, Open}
+use Rattle.host.specs.declared.requests.State.{State}
 
--- a row: 1 for an open request or 0, its progress, and its locals
-abbrev pub state_numbers : ℕ → Progress → (locals : List ℕ) → List ℕ
-state_numbers is_open x l = is_open ∷ x.prog ∷ x.at ∷ x.done ∷ l
-
-abbrev pub is_open_in : List ℕ → Bool
-is_open_in v = not (eqb (get_or v 0 0) 0)
-
-abbrev pub progress_in : List ℕ → Progress
-progress_in v = record { prog = get_or v 1 0; at = get_or v 2 0; done = get_or v 3 0 }
-
-abbrev pub locals_in : List ℕ → List ℕ
-locals_in v =
-    get_or v 4 0 ∷ get_or v 5 0 ∷ get_or v 6 0 ∷ get_or v 7 0 ∷ get_or v 8 0 ∷ get_or v 9 0 ∷ get_or v 10 0 ∷ get_or v 11 0 ∷ []
+-- the state of a slot
+abbrev pub state_at : List State → ℕ → State
+state_at states s = slice_index_or states s (record { is_open = false; prog = 0; at = 0; done = 0; locals = [] })
 
 -- what a turn finds in a slot that counts from 1
-abbrev pub standing_row : (s : ℕ) → List ℕ → Standing
-standing_row s v = cond (is_open_in v) (Open s) Idle
+abbrev pub Stands : List State → (slot : ℕ) → Standing → Type 0
+Stands states slot Missing = (slot ≡ 0) ⊎ (length states < slot)
+Stands states slot Idle = (0 < slot) × (slot ≤ length states) × ((state_at states (slot - 1)).is_open ≡ false)
+Stands states slot (Open s) = (slot ≡ suc s) × (s < length states) × ((state_at states s).is_open ≡ true)
 
-unfoldable pub standing_in : (states : List ℕ) → ℕ → Standing
-standing_in states zero = Missing
-standing_in states (suc s) = cond (ltb s most_requests) (standing_row s (row 12 states s)) Missing
+-- a request gone on, without its path, which the host does not keep
+abbrev pub pathless : Advanced → Advanced
+pathless r = advanced r.locals r.stop []

@@ -1,35 +1,39 @@
 -- What the private functions of this crate promise. The public contracts do not need it.
-use Rattle.std.specs.Prelude.{ℕ, ◌+◌, ◌≤◌, List, ◌++◌, length, ◌≡◌}
-use Rattle.basics.specs.Firsts.{firsts}
-use Rattle.text.specs.Formats.{most_entries}
-use Rattle.text.specs.Held.{entry_at, entry_room}
+use Rattle.std.specs.Prelude.{ℕ, List, Result, Ok, Err}
+use Rattle.arrayvec.specs.ArrayVec.{ArrayVec}
 use Rattle.text.specs.declared.report.Entry.{Entry}
-use Rattle.model.specs.Batch.{log_of}
-use Rattle.model.specs.Host.{logs_from}
-use Rattle.replay.specs.Arrays.{Arrays, within, batch_held}
-use Rattle.host.specs.Recorded.{Texts, texts_of}
+use Rattle.text.specs.declared.report.Of.{Of}
+use Rattle.text.specs.declared.trace.Event.{Event}
+use Rattle.model.specs.Batch.{Batch, log_of}
+use Rattle.host.specs.declared.Recorded.{Recorded}
+use Rattle.host.specs.declared.outputs.Written.{Written}
+use Rattle.host.specs.declared.refusals.Refusal.{Refusal}
+use Rattle.host.specs.declared.refusals.Refusal.TheVariants.{Programs, Rules, Schedule, Run, Short}
 
--- the texts of a batch in arrays
-abbrev pub held_texts : Arrays → Texts
-held_texts a = texts_of (batch_held (within a))
+-- the batch of these lines
+abbrev pub batch_in : ArrayVec Event → ArrayVec Of → ArrayVec Entry → Batch
+batch_in trace ofs log = record { trace = trace.items; ofs = ofs.items; log = log.items }
 
--- the lines of one object among the first n of logs
-abbrev pub lines_of : (logs : List ℕ) (n object : ℕ) → List Entry
-lines_of logs n object = log_of object (firsts (entry_at logs) n)
+-- the lines of each object
+abbrev pub lines_of : List Entry → (object : ℕ) → List Entry
+lines_of log object = log_of object log
 
--- there is room for them behind the first `at` of out
-pub record RoomFor (logs : List ℕ) (n object : ℕ) (out : List ℕ) (at : ℕ) : Type 0 where
-  pub size : length out ≡ entry_room
-  pub room : at + length (lines_of logs n object) ≤ most_entries
+-- the number of a row that does not hold, and its line
+abbrev pub number_of : Refusal → ℕ
+number_of (Programs e) = 1
+number_of (Rules e) = 2
+number_of (Schedule e) = 13
+number_of (Run e) = 14
+number_of Short = 16
 
--- they have joined them, which makes `at_after` lines
-pub record Picked (logs : List ℕ) (n object : ℕ) (out : List ℕ) (at : ℕ) (out_after : List ℕ) (at_after : ℕ) : Type 0 where
-  pub size : length out_after ≡ entry_room
-  pub count : at_after ≡ at + length (lines_of logs n object)
-  pub lines : firsts (entry_at out_after) at_after ≡ firsts (entry_at out) at ++ lines_of logs n object
+abbrev pub line_of : Refusal → ℕ
+line_of (Programs e) = e.line
+line_of (Rules e) = e.line
+line_of (Schedule e) = e.line
+line_of (Run e) = e.line
+line_of Short = 0
 
--- the lines of the first m objects stand in out, by rising object, `at` lines in all
-pub record Sorted (logs : List ℕ) (n m : ℕ) (out : List ℕ) (at : ℕ) : Type 0 where
-  pub size : length out ≡ entry_room
-  pub count : at ≡ length (logs_from (lines_of logs n) 0 m)
-  pub lines : firsts (entry_at out) at ≡ logs_from (lines_of logs n) 0 m
+-- the numbers of what was written, or of a refusal
+abbrev pub recorded_of : Result Written Refusal → Recorded
+recorded_of (Ok w) = record { verdict = 0; line = 0; trace_len = w.trace; report_len = w.report }
+recorded_of (Err r) = record { verdict = number_of r; line = line_of r; trace_len = 0; report_len = 0 }

@@ -1,12 +1,11 @@
 // The reference host: the run of a schedule, and the trace and the report that it writes.
 #![tactic(auto)]
 
-mod limits;
 mod logs;
 mod outputs;
 mod printing;
-mod programs;
 mod records;
+mod refusals;
 mod requests;
 mod runs;
 mod steps;
@@ -15,7 +14,8 @@ pub use printing::{PRINTED, record_text};
 pub use records::record;
 pub use text::TEXT_ROOM;
 
-// What the host comes to: the number of the verdict with its line, and how long the two texts are that it wrote, both 0 on a refusal.
+// What the host comes to: the number of the verdict with its line, and how long the two texts are that it wrote, both 0 on a refusal. Numbers,
+// as they are handed to C.
 #[derive(Drop)]
 pub struct Recorded {
     pub verdict: u64,

@@ -1,47 +1,31 @@
 // The log: lines in order of execution, and then by rising object.
-ghost use Rattle.std.specs.Prelude.{◌≡◌, ◌≤◌, length};
+ghost use Rattle.std.specs.Prelude.{◌≡◌, ◌≤◌, ◌+◌, ◌++◌, [], length};
 ghost use Rattle.text.specs.Formats.{most_entries, most_objects};
-ghost use Rattle.text.specs.Held.{entry_room};
-ghost use Rattle.host.specs.Steps.{RoomFor, Picked, Sorted};
+ghost use Rattle.model.specs.Batch.{log_of};
+ghost use Rattle.model.specs.Host.{logs_from};
+ghost use Rattle.host.specs.Steps.{lines_of};
 
-use text::{ENTRY_ROWS, OBJECTS, entry_at, put_entry};
+use text::{Entry, Log, OBJECTS};
 
-// The lines of one object, of the first n, join the first `at` of out; how many there are then.
-fn put_object(
-    logs: &[u64; ENTRY_ROWS],
-    n: usize,
-    object: u64,
-    out: &mut [u64; ENTRY_ROWS],
-    at: usize,
-) -> usize
-    requires { RoomFor logs.now n object out.old at }
-    ensures { Picked logs.now n object out.old at out.new result }
+// The lines of one object join those that were sorted.
+fn push_object(log: &[Entry], object: u64, sorted: &mut Log)
+    requires { length sorted.old.items + length (log_of object log.now) ≤ most_entries }
+    ensures { sorted.new.items ≡ sorted.old.items ++ log_of object log.now }
 {
-    let mut at = at;
-    let mut i: usize = 0;
-    while i < n {
-        let l = entry_at(logs, i);
+    for l in log {
         if l.op.object == object {
-            put_entry(out, at, l);
-            at += 1;
-            i += 1;
-        } else {
-            i += 1;
+            sorted.push(*l);
         }
     }
-    at
 }
 
-// The first n lines by rising object, within one in order of execution; how many there are.
-pub(crate) fn by_object(logs: &[u64; ENTRY_ROWS], n: usize, out: &mut [u64; ENTRY_ROWS]) -> usize
-    requires { (n ≤ most_entries) × (length out.old ≡ entry_room) }
-    ensures { Sorted logs.now n most_objects out.new result }
+// The lines by rising object, within one in order of execution, into an empty log.
+pub(crate) fn by_object(log: &[Entry], sorted: &mut Log)
+    requires few { length log.now ≤ most_entries }
+    requires empty { sorted.old.items ≡ [] }
+    ensures { sorted.new.items ≡ logs_from (lines_of log.now) 0 most_objects }
 {
-    let mut at: usize = 0;
-    let mut object: u64 = 0;
-    while object < OBJECTS {
-        at = put_object(logs, n, object, out, at);
-        object += 1;
+    for object in 0..OBJECTS {
+        push_object(log, object, sorted);
     }
-    at
 }

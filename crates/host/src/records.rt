@@ -1,75 +1,55 @@
 // The reference host: programs and a schedule are read, the schedule is run, and what it means is written.
 ghost use Rattle.std.specs.Prelude.{◌≡◌, length};
-ghost use Rattle.machine.specs.Objects.{at_start};
 ghost use Rattle.host.specs.Accepted.{Accepted};
 ghost use Rattle.host.specs.Recorded.{record_of, RecordIs};
-ghost use Rattle.host.specs.Tables.{programs_of};
-ghost use Rattle.host.specs.Runs.{moves_in, Scheduled, recorded_moves};
+ghost use Rattle.text.specs.Held.{moves_in};
+ghost use Rattle.machine.specs.Objects.{at_start};
+ghost use Rattle.host.specs.Runs.{Known, Scheduled, full_table, recorded_moves};
+ghost use Rattle.host.specs.Steps.{recorded_of};
 
 use crate::Recorded;
-use crate::limits::{RID_SLOTS, STATE_ROWS};
-use crate::logs::by_object;
-use crate::outputs::{refused, write_texts};
-use crate::programs::lay_out;
-use crate::runs::{Run, run_moves};
-use cells::{BUCKETS, CELL_ROWS};
-use machine::{REGISTERS, Ruling, check_rules};
-use text::{
-    ARRIVAL_ROWS, ENTRY_ROWS, EVENT_ROWS, INSTRUCTIONS, Lines, MOVES, OF_ROWS, PROGRAMS,
-    read_programs, read_schedule,
-};
+use crate::outputs::{Written, write_run};
+use crate::refusals::Refusal;
+use crate::runs::Run;
+use machine::check_rules;
+use text::{Programs, Schedule, read_programs, read_schedule};
 
-// Rows 14 and 16, of `programs` programs and a schedule of n lines that were read.
+// Rows 14 and 16, of programs and a schedule that were read. What a run takes is made in here, where it is needed: a function clears its
+// locals when it begins.
 fn record_moves(
-    table: &[[[u64; 4]; INSTRUCTIONS]; PROGRAMS],
-    programs: usize,
-    moves: &[u32; MOVES],
-    arrivals: &[u64; ARRIVAL_ROWS],
-    n: usize,
+    programs: &Programs,
+    schedule: &Schedule,
     trace: &mut [u8],
     report: &mut [u8],
-) -> Recorded
-    requires { Scheduled moves.now arrivals.now n }
+) -> Result<Written, Refusal>
+    requires programs { Known programs.now }
+    requires schedule { Scheduled (moves_in schedule.now) }
     ensures { RecordIs
-        (recorded_moves at_start (programs_of table.now programs) (moves_in moves.now arrivals.now n)
-        (length trace.old) (length report.old))
-        trace.old report.old trace.new report.new result }
+        (recorded_moves at_start (full_table programs.now) (moves_in schedule.now) (length trace.old) (length report.old))
+        trace.old report.old trace.new report.new (recorded_of result) }
 {
-    let mut slots = [0u8; RID_SLOTS];
-    let mut states = [0u64; STATE_ROWS];
-    let mut ofs = [0u64; OF_ROWS];
-    let mut events = [0u64; EVENT_ROWS];
-    let mut logs = [0u64; ENTRY_ROWS];
-    let mut registers = [0u64; REGISTERS];
-    let mut cells = [0u64; CELL_ROWS];
-    let mut buckets = [0u16; BUCKETS];
-    match run_moves(
-        table,
-        programs,
-        moves,
-        arrivals,
-        n,
-        &mut slots,
-        &mut states,
-        &mut ofs,
-        &mut events,
-        &mut logs,
-        &mut registers,
-        &mut cells,
-        &mut buckets,
-        0,
-    ) {
-        Run::Breaks(line) => {
-            return refused(14, line);
-        }
-        Run::Ends(c) => {
-            let mut sorted = [0u64; ENTRY_ROWS];
-            let k = by_object(&logs, c.operations, &mut sorted);
-            return write_texts(
-                &events, c.events, &ofs, c.requests, &sorted, k, trace, report,
-            );
-        }
-    }
+    let mut run = Run::new();
+    run.play(programs, schedule).map_err(Refusal::Run)?;
+    write_run(&run, trace, report)
+}
+
+// The checks in their order, and the two texts where none finds a fault.
+fn run_texts(
+    programs: &[u8],
+    schedule: &[u8],
+    trace: &mut [u8],
+    report: &mut [u8],
+) -> Result<Written, Refusal>
+    ensures { RecordIs
+        (record_of programs.now schedule.now (length trace.old) (length report.old))
+        trace.old report.old trace.new report.new (recorded_of result) }
+{
+    let mut table = Programs::new();
+    read_programs(programs, &mut table).map_err(Refusal::Programs)?;
+    check_rules(&table).map_err(Refusal::Rules)?;
+    let mut moves = Schedule::new();
+    read_schedule(schedule, &mut moves).map_err(Refusal::Schedule)?;
+    record_moves(&table, &moves, trace, report)
 }
 
 // What programs and a schedule mean: the trace to the front of one buffer, the report to the front of the other. A refusal writes nothing.
@@ -80,26 +60,22 @@ pub fn record(programs: &[u8], schedule: &[u8], trace: &mut [u8], report: &mut [
     ensures accepted { (result.verdict ≡ 0) →
         Accepted programs.now schedule.now trace.new report.new result }
 {
-    let ps = read_programs(programs);
-    if !ps.ok {
-        return refused(1, ps.line as usize);
-    }
-    match check_rules(ps) {
-        Ruling::Broken(line) => {
-            return refused(2, line);
-        }
-        Ruling::Kept => {}
-    }
-    let mut moves = [0u32; MOVES];
-    let mut arrivals = [0u64; ARRIVAL_ROWS];
-    match read_schedule(schedule, &mut moves, &mut arrivals) {
-        Lines::Unreadable(line) => {
-            return refused(13, line);
-        }
-        Lines::Readable(n) => {
-            let mut table = [[[0u64; 4]; INSTRUCTIONS]; PROGRAMS];
-            lay_out(ps, &mut table);
-            return record_moves(&table, ps.n, &moves, &arrivals, n, trace, report);
+    match run_texts(programs, schedule, trace, report) {
+        Ok(Written { trace, report }) => Recorded {
+            verdict: 0,
+            line: 0,
+            trace_len: trace,
+            report_len: report,
+        },
+        Err(refusal) => {
+            let (verdict, line) = refusal.numbers();
+            Recorded {
+                verdict,
+                // u64 has no From for usize.
+                line: line as u64,
+                trace_len: 0,
+                report_len: 0,
+            }
         }
     }
 }

@@ -1,121 +1,66 @@
-// The requests of a run. Each has a slot, in arrival order, where its `of` line and its state stand. The slot of a rid counts from 1;
-// 0 says that the rid has not arrived.
-ghost use Rattle.std.specs.Prelude.{◌≡◌, ◌%◌, ◌<◌, get_or, set};
-ghost use Rattle.lines.specs.Place.{cells};
-ghost use Rattle.text.specs.Formats.{most_requests, most_rids};
-ghost use Rattle.text.specs.Rows.{row, with_row};
-ghost use Rattle.host.specs.Requests.{state_numbers, is_open_in, progress_in, locals_in, standing_in};
+// The requests of a run: where each stands, and how it goes on to its next operation, its reply or its cut.
+ghost use Rattle.std.specs.Prelude.{◌≡◌, []};
+ghost use Rattle.machine.specs.Processes.{advanced, limit, advance_of};
+ghost use Rattle.host.specs.Requests.{pathless};
 
-use crate::limits::{RID_SLOTS, STATE_ROW, STATE_ROWS};
-use basics::index_of_byte;
-use machine::LOCALS;
-use text::{REQUESTS, RIDS};
+use machine::{Act, LIMIT, LOCALS, Next, Stop, carry_out};
+use text::{INSTRUCTIONS, Instr, POSITIONS};
 
-// How far a request has come: its program, its position, and how many instructions it has carried out.
-#[derive(Drop)]
-pub struct Progress {
+// A request that has arrived: whether it is open, its program, its position, how many instructions it has carried out, and its locals.
+// is_open is a flag and no Option, since one that has closed keeps the rest (`replied`).
+#[derive(Clone, Copy, Default)]
+pub struct State {
+    pub is_open: bool,
     pub prog: u64,
     pub at: u64,
     pub done: usize,
+    pub locals: [u64; LOCALS],
 }
 
 // What a turn finds: no such request, one that has its response, or an open one with its slot (from 0).
-#[derive(Drop)]
+#[derive(Clone, Copy)]
 pub enum Standing {
     Missing,
     Idle,
     Open(usize),
 }
 
-pub(crate) fn slot_of(slots: &[u8; RID_SLOTS], rid: u64) -> usize
-    ensures { result ≡ get_or slots.now (rid % most_rids) 0 }
+// A request goes on by these instructions up to and including its next operation, or to its reply, or to its cut. The host keeps no path of it.
+// Locals, position and count come one by one, as the definition takes them (`advance_of`).
+pub(crate) fn advance(
+    code: &[Instr; INSTRUCTIONS],
+    l: &mut [u64; LOCALS],
+    mut at: u64,
+    done: usize,
+) -> Stop
+    ensures { advanced l.new result [] ≡ pathless (advance_of limit code.now l.old at done) }
 {
-    index_of_byte(slots[(rid % RIDS) as usize])
-}
-
-pub(crate) fn put_slot(slots: &mut [u8; RID_SLOTS], rid: u64, slot: usize)
-    requires { slot < 256 }
-    ensures { slots.new ≡ set slots.old (rid % most_rids) slot }
-{
-    slots[(rid % RIDS) as usize] = slot as u8;
-}
-
-// Row s of states: 1 for an open request or 0, its progress, and its eight locals.
-pub(crate) fn put_state(
-    states: &mut [u64; STATE_ROWS],
-    s: usize,
-    open: u64,
-    x: Progress,
-    l: &[u64; LOCALS],
-)
-    requires { s < most_requests }
-    ensures { states.new ≡ with_row 12 states.old s (state_numbers «open» x (cells 8 l.now)) }
-{
-    let k = s * STATE_ROW;
-    states[k] = open;
-    states[k + 1] = x.prog;
-    states[k + 2] = x.at;
-    states[k + 3] = x.done as u64;
-    states[k + 4] = l[0];
-    states[k + 5] = l[1];
-    states[k + 6] = l[2];
-    states[k + 7] = l[3];
-    states[k + 8] = l[4];
-    states[k + 9] = l[5];
-    states[k + 10] = l[6];
-    states[k + 11] = l[7];
-}
-
-fn is_open(states: &[u64; STATE_ROWS], s: usize) -> bool
-    requires { s < most_requests }
-    ensures { result ≡ is_open_in (row 12 states.now s) }
-{
-    states[s * STATE_ROW] != 0
-}
-
-pub(crate) fn progress_at(states: &[u64; STATE_ROWS], s: usize) -> Progress
-    requires { s < most_requests }
-    ensures { result ≡ progress_in (row 12 states.now s) }
-{
-    let k = s * STATE_ROW;
-    Progress {
-        prog: states[k + 1],
-        at: states[k + 2],
-        done: states[k + 3] as usize,
+    for carried in done..LIMIT {
+        let here = at % POSITIONS;
+        let next = here + 1;
+        match carry_out(l, code[here as usize], next) {
+            Act::Goes(to) => {
+                at = to;
+            }
+            Act::Asks(o, into) => {
+                return Stop {
+                    at: next,
+                    done: carried + 1,
+                    next: Next::Operation(o, into),
+                };
+            }
+            Act::Replies(v) => {
+                return Stop {
+                    at: next,
+                    done: carried + 1,
+                    next: Next::Reply(v),
+                };
+            }
+        }
     }
-}
-
-pub(crate) fn locals_at(states: &[u64; STATE_ROWS], s: usize) -> [u64; LOCALS]
-    requires { s < most_requests }
-    ensures { result ≡ locals_in (row 12 states.now s) }
-{
-    let k = s * STATE_ROW;
-    [
-        states[k + 4],
-        states[k + 5],
-        states[k + 6],
-        states[k + 7],
-        states[k + 8],
-        states[k + 9],
-        states[k + 10],
-        states[k + 11],
-    ]
-}
-
-// The request of a turn. No slot is above REQUESTS.
-pub(crate) fn standing_of(slots: &[u8; RID_SLOTS], states: &[u64; STATE_ROWS], rid: u64) -> Standing
-    ensures { result ≡ standing_in states.now (get_or slots.now (rid % most_rids) 0) }
-{
-    let slot = slot_of(slots, rid);
-    if slot == 0 {
-        return Standing::Missing;
+    Stop {
+        at,
+        done: done.max(LIMIT),
+        next: Next::Cut,
     }
-    if REQUESTS < slot {
-        return Standing::Missing;
-    }
-    let s = slot - 1;
-    if is_open(states, s) {
-        return Standing::Open(s);
-    }
-    Standing::Idle
 }

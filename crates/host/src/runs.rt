@@ -1,87 +1,96 @@
-// Row 14: the run of a schedule, line by line.
-ghost use Rattle.host.specs.Tables.{programs_of};
-ghost use Rattle.machine.specs.Held.{objects};
-ghost use Rattle.host.specs.Memory.{memory};
-ghost use Rattle.host.specs.Runs.{Ready, RunsFrom};
+// The run of a schedule: what the host keeps of it, and row 14, line by line.
+ghost use Rattle.std.specs.Prelude.{◌≡◌, ◌%◌, slice_index_or};
+ghost use Rattle.text.specs.Formats.{most_rids};
+ghost use Rattle.host.specs.Requests.{Stands};
+ghost use Rattle.host.specs.Moves.{StepRoom, StepIs};
+ghost use Rattle.host.specs.Runs.{blank, Ready, RunsFrom};
 
-use crate::limits::{RID_SLOTS, STATE_ROWS};
-use crate::requests::{Standing, standing_of};
-use crate::steps::{Counts, Step, arrive, turn};
-use cells::{BUCKETS, CELL_ROWS};
-use machine::REGISTERS;
-use text::{
-    ARRIVAL_ROWS, ENTRY_ROWS, EVENT_ROWS, INSTRUCTIONS, MOVES, Move, OF_ROWS, PROGRAMS, move_at,
-};
+use crate::requests::{Standing, State};
+use arrayvec::ArrayVec;
+use machine::Objects;
+use text::{BadLine, Log, Move, Ofs, Programs, REQUESTS, RIDS, Schedule, Trace};
 
-// A schedule that was run: the line that breaks row 14, or what there is at the end.
+// A slot for each rid.
+const RID_SLOTS: usize = RIDS as usize;
+
+// What the host keeps of a run. Each request has a slot, in arrival order, where its state and its `of` line stand. The log is in order of
+// execution. The slot of a rid is one byte that counts from 1, and 0 says that the rid has not arrived: all of them are cleared for each run,
+// and an Option would take two bytes each. A number of 64 bits becomes an index or a byte by `as`, behind a `%` or a bound that is proved:
+// `try_from` would add an `Err` that never comes.
 #[derive(Drop)]
-pub enum Run {
-    Breaks(usize),
-    Ends(Counts),
+pub struct Run {
+    pub slots: [u8; RID_SLOTS],
+    pub states: ArrayVec<State, REQUESTS>,
+    pub trace: Trace,
+    pub ofs: Ofs,
+    pub log: Log,
+    pub objects: Objects,
 }
 
-// The run of the first n lines of a schedule, where `programs` programs are known, from the objects that the arrays hold in `used` cells. No
-// request has arrived before it.
-pub(crate) fn run_moves(
-    table: &[[[u64; 4]; INSTRUCTIONS]; PROGRAMS],
-    programs: usize,
-    moves: &[u32; MOVES],
-    arrivals: &[u64; ARRIVAL_ROWS],
-    n: usize,
-    slots: &mut [u8; RID_SLOTS],
-    states: &mut [u64; STATE_ROWS],
-    ofs: &mut [u64; OF_ROWS],
-    events: &mut [u64; EVENT_ROWS],
-    logs: &mut [u64; ENTRY_ROWS],
-    registers: &mut [u64; REGISTERS],
-    cells: &mut [u64; CELL_ROWS],
-    buckets: &mut [u16; BUCKETS],
-    used: usize,
-) -> Run
-    requires { Ready moves.now arrivals.now n slots.old states.old ofs.old events.old logs.old
-        (objects registers.old cells.old buckets.old used) }
-    ensures { RunsFrom (objects registers.old cells.old buckets.old used)
-        (programs_of table.now programs) moves.now arrivals.now n
-        slots.new (memory states.new ofs.new events.new logs.new
-        registers.new cells.new buckets.new) result }
-{
-    let mut c = Counts {
-        requests: 0,
-        events: 0,
-        operations: 0,
-        cells: used,
-    };
-    let mut i: usize = 0;
-    while i < n {
-        match move_at(moves, arrivals, i) {
-            Move::Arrive { rid, prog, a, b } => {
-                let Step::On(d) = arrive(programs, c, rid, prog, a, b, slots, states, ofs, events)
-                else {
-                    return Run::Breaks(i + 1);
-                };
-                c = d;
-                i += 1;
-            }
-            Move::Turn { rid } => {
-                match standing_of(slots, states, rid) {
-                    Standing::Missing => {
-                        return Run::Breaks(i + 1);
-                    }
-                    Standing::Idle => {
-                        i += 1;
-                    }
-                    Standing::Open(s) => {
-                        let Step::On(d) = turn(
-                            table, c, s, rid, states, ofs, events, logs, registers, cells, buckets,
-                        ) else {
-                            return Run::Breaks(i + 1);
-                        };
-                        c = d;
-                        i += 1;
-                    }
-                }
-            }
+// A line of the schedule breaks row 14.
+#[derive(Clone, Copy)]
+pub struct Breaks;
+
+impl Run {
+    // Before the first line: no request has arrived, and the objects are as at the start.
+    pub(crate) fn new() -> Run
+        ensures { result ≡ blank }
+    {
+        Run {
+            slots: [0; RID_SLOTS],
+            states: ArrayVec::new(),
+            trace: Trace::new(),
+            ofs: Ofs::new(),
+            log: Log::new(),
+            objects: Objects::new(),
         }
     }
-    Run::Ends(c)
+
+    pub(crate) fn slot_of(&self, rid: u64) -> usize
+        ensures { result ≡ slice_index_or self.now.slots (rid % most_rids) 0 }
+    {
+        usize::from(self.slots[(rid % RIDS) as usize])
+    }
+
+    // The request of a turn.
+    fn standing(&self, rid: u64) -> Standing
+        ensures { Stands self.now.states.items (slice_index_or self.now.slots (rid % most_rids) 0) result }
+    {
+        let Some(s) = self.slot_of(rid).checked_sub(1) else {
+            return Standing::Missing;
+        };
+        match self.states.get(s) {
+            None => Standing::Missing,
+            Some(x) if x.is_open => Standing::Open(s),
+            Some(_) => Standing::Idle,
+        }
+    }
+
+    // A line of the schedule.
+    fn step(&mut self, programs: &Programs, m: Move) -> Result<(), Breaks>
+        requires { StepRoom m self.old }
+        ensures { StepIs programs.now m self.old self.new result }
+    {
+        match m {
+            Move::Arrive { rid, prog, a, b } => self.arrive(programs.n, rid, prog, a, b),
+            Move::Turn { rid } => match self.standing(rid) {
+                Standing::Missing => Err(Breaks),
+                Standing::Idle => Ok(()),
+                Standing::Open(s) => self.turn(programs, s, rid),
+            },
+        }
+    }
+
+    // The lines of a schedule, from where no request has arrived; or the first that breaks row 14.
+    pub(crate) fn play(&mut self, programs: &Programs, schedule: &Schedule) -> Result<(), BadLine>
+        requires { Ready programs.now schedule.now self.old }
+        ensures { RunsFrom programs.now schedule.now self.old self.new result }
+    {
+        // A schedule makes a line when it is asked for one, so there is no slice to go through.
+        for i in 0..schedule.len() {
+            self.step(programs, schedule.move_at(i))
+                .map_err(|_| BadLine { line: i + 1 })?;
+        }
+        Ok(())
+    }
 }

@@ -1,5 +1,5 @@
 -- Numbers and lines, computed.
-use Rattle.std.proofs.Common.{◌≡◌, [], ◌∷◌, map, refl}
+use Rattle.std.proofs.Common.{◌≡◌, [], ◌∷◌, map, refl, Some, None}
 use mathlib.Core.Option.{some, none}
 use Rattle.lines.specs.Bytes.{bytes}
 use Rattle.lines.specs.Number.{push_of, digits_of, number_of}
@@ -7,7 +7,6 @@ use Rattle.lines.specs.Decimal.{digits_in, decimal}
 use Rattle.lines.specs.Parts.{onto, parts}
 use Rattle.lines.specs.Line.{Format, any, prefix, field_of, fields_of, line_of}
 use Rattle.lines.specs.LineText.{separator_of, numbers_text, line_text}
-use Rattle.lines.specs.declared.numbers.Numeral.TheVariants.{Value, Not}
 
 numbers :
     map (λ t. number_of (bytes t))
@@ -24,7 +23,7 @@ numbers :
     ∷ " 1"
     ∷ "1:"
     ∷ [])
-    ≡ Value 0 ∷ Value 102 ∷ Value 18446744073709551615 ∷ Not ∷ Not ∷ Not ∷ Not ∷ Not ∷ Not ∷ Not ∷ Not ∷ Not ∷ []
+    ≡ Some 0 ∷ Some 102 ∷ Some 18446744073709551615 ∷ None ∷ None ∷ None ∷ None ∷ None ∷ None ∷ None ∷ None ∷ None ∷ []
 unfolding number_of digits_of push_of
 numbers = refl
 

@@ -60,6 +60,9 @@ decimal-two v h g = ap length (decimal-tens v h g)
 pub decimal-two-more : (v : ℕ) → 100 ≤ v → length (decimal v) ≡ length (decimal (v / 100)) + 2
 decimal-two-more v h = ap length (decimal-hundreds v h) ∙ length-append (decimal (v / 100)) _
 
+-- how long a number is, by its last two digits
+pub ruleset decimal_lengths = (decimal-one, decimal-two, decimal-two-more)
+
 pub decimal-length : (k v : ℕ) → v < 10 * 10 ^ k → length (decimal v) ≤ k + 1
 decimal-length zero v h = omega (arith, decimal-one v (omega arith))
 decimal-length (suc k) v h = go (ltb v 10) refl (decimal-length k (v / 10))
@@ -69,6 +72,24 @@ decimal-length (suc k) v h = go (ltb v 10) refl (decimal-length k (v / 10))
     go false e ih =
         let l = ltb-false v 10 e in
         omega (arith, decimal-more v l, ih (omega (arith, rw pow.suc at h)))
+
+ten-power : (k : ℕ) → 0 < 10 ^ k
+ten-power zero = omega arith
+ten-power (suc k) = rw pow.suc (omega (arith, ten-power k))
+
+decimal-at_least : (k v : ℕ) → 10 ^ k ≤ v → k + 1 ≤ length (decimal v)
+decimal-at_least zero v h = go (ltb v 10) refl
+  where
+    go : (b : Bool) → ltb v 10 ≡ b → 1 ≤ length (decimal v)
+    go true e = omega (arith, decimal-one v (ltb-true v 10 e))
+    go false e = omega (arith, decimal-more v (ltb-false v 10 e))
+decimal-at_least (suc k) v h =
+    let g = rw pow.suc at h in
+    omega (arith, decimal-more v (omega (arith, ten-power k)), decimal-at_least k (v / 10) (omega arith))
+
+-- what a number's logarithm tells
+pub decimal-power : (k v : ℕ) → 10 ^ k ≤ v → v < 10 * 10 ^ k → length (decimal v) ≡ k + 1
+decimal-power k v h g = omega (arith, decimal-at_least k v h, decimal-length k v g)
 
 -- a number of 64 bits has at most 20 digits
 pub decimal-20 : (v : ℕ) → v < 2 ^ 64 → length (decimal v) ≤ 20

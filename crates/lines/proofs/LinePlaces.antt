@@ -1,13 +1,12 @@
 -- Laws of a line that begins at a place of a text.
-use Rattle.std.proofs.Common.{◌≡◌, ℕ, ◌+◌, ◌-◌, ◌<◌, ◌≤◌, min, Bool, true, false, List, [], ◌∷◌, length, take, drop, sym, refl, ap, ◌∙◌, arith, drop_of_length-le, drop-drop}
+use Rattle.std.proofs.Common.{◌≡◌, ℕ, ◌+◌, ◌-◌, ◌<◌, ◌≤◌, Bool, true, false, eqb, List, [], ◌∷◌, length, take, drop, sym, refl, ap, ◌∙◌, arith, drop_of_length-le, drop-drop}
 use Rattle.lines.specs.Number.{number_of}
 use Rattle.lines.specs.Parts.{until, parts}
 use Rattle.lines.specs.Line.{Format, prefix, field_of, fields_of, line_of}
-use Rattle.lines.specs.Place.{line, line_end, found, nothing, found_at, fields_at, line_at, cells, format_of, found_in}
-use Rattle.lines.specs.declared.lines.Place.{Place}
-use Rattle.lines.specs.declared.lines.Place.TheVariants.{At, Nowhere}
-use Rattle.lines.proofs.Parts.{rest_all}
-use Rattle.lines.proofs.Prefix.{unbroken, prefix-line, behind-word}
+use Rattle.lines.specs.Place.{line, line_end, nothing, found_at, fields_at, line_at}
+use Rattle.std.proofs.lemmas.List.{take_rest}
+use Rattle.std.specs.List.{starts_with}
+use Rattle.lines.proofs.Prefix.{starts_prefix, unbroken, prefix-line, behind-word}
 
 -- no field stands past the end
 fields_out : (rs : List ℕ) (s : List ℕ) (at : ℕ) → length s ≤ at → fields_at rs s at ≡ nothing
@@ -15,10 +14,10 @@ unfolding fields_at fields_of field_of number_of parts until
 fields_out [] s at h = rw (drop_of_length-le s h) refl
 fields_out (r ∷ rs) s at h = rw (drop_of_length-le s h) refl
 
--- what a test of the word at `&s[at..]` tells
-pub word_test : (w s : List ℕ) (at : ℕ) (b v : Bool) → b ≡ prefix w (take (length s - at) (drop at s)) → b ≡ v →
+-- what a test of the word in `part`, the text from a place on, tells
+pub word_test : (w s part : List ℕ) (at : ℕ) (b v : Bool) → part ≡ take (length s - at) (drop at s) → b ≡ starts_with eqb part w → b ≡ v →
     prefix w (drop at s) ≡ v
-word_test w s at b v h k = ap (prefix w) (sym (rest_all at s)) ∙ sym h ∙ k
+word_test w s part at b v h k e = ap (prefix w) (sym (h ∙ take_rest s at)) ∙ sym (starts_prefix w part) ∙ sym k ∙ e
 
 module _ (w : List ℕ) (rs : List ℕ) (s : List ℕ) (at : ℕ) where
   abbrev format : Format
@@ -38,21 +37,6 @@ module _ (w : List ℕ) (rs : List ℕ) (s : List ℕ) (at : ℕ) where
       go : (b : Bool) → prefix w (drop at s) ≡ b → nothing ≡ line_at format s at
       go true e = sym (fields_out rs s (at + length w) (omega arith)) ∙ line-here e
       go false e = line_other e
-
--- the fields that were read behind the word, where m is n or 6
-found-six : (r : Place) (m n : ℕ) (v : List ℕ) → m ≡ min n 6 → found_in r n v ≡ found_in r m v
-unfolding found_in
-found-six (At e) m n v h =
-    let k : min n 6 ≡ min m 6 = omega arith in
-    ap (λ k. found (cells k v) e) k
-found-six Nowhere m n v h = refl
-
-pub line_read : (w most s : List ℕ) (at m n : ℕ) (r : Place) (v : List ℕ) → m ≡ min n 6 →
-    found_in r m v ≡ fields_at (cells m most) s (at + length w) → prefix w (drop at s) ≡ true →
-    found_in r n v ≡ line_at (format_of w n most) s at
-line_read w most s at m n r v h f e =
-    found-six r m n v h ∙ f ∙ line-here w (cells m most) s at e
-    ∙ ap (λ k. line_at (record { word = w; largest = cells k most }) s at) h
 
 -- A word without a line feed: the line from a place on is the text's line there.
 pub line-of : (f : Format) → unbroken f.word ≡ true → (s : List ℕ) (at : ℕ) →

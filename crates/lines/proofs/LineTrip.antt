@@ -1,15 +1,13 @@
 -- A line that was written reads back; the numbers of a line that was read are in their ranges.
-use Rattle.std.proofs.Common.{◌≡◌, ℕ, zero, suc, ◌+◌, ◌/◌, ◌%◌, ◌<◌, ◌≤◌, Bool, true, false, eqb, ltb, leb, List, [], ◌∷◌, ◌++◌, map, length, drop, sym, refl, ap, ◌∙◌, append_assoc, arith, drop_of_length-le, ltb-false, ltb-true, eq-eqb, ne_eqb, leb-true}
+use Rattle.std.proofs.Common.{◌≡◌, ℕ, zero, suc, ◌+◌, ◌/◌, ◌%◌, ◌<◌, ◌≤◌, Bool, true, false, eqb, ltb, leb, List, [], ◌∷◌, ◌++◌, map, length, drop, sym, refl, ap, ◌∙◌, append_assoc, arith, drop_of_length-le, ltb-false, ltb-true, eq-eqb, ne_eqb, leb-true, Some, None}
+use Rattle.std.proofs.Common.{Option as RustOption}
 use mathlib.Core.Option.{Option, some, none}
 use lib.Seq.{drop-append_seam}
-use Rattle.basics.proofs.Tests.{clash}
 use Rattle.lines.specs.Number.{number_of}
 use Rattle.lines.specs.Decimal.{decimal}
 use Rattle.lines.specs.Parts.{parts, onto}
 use Rattle.lines.specs.Line.{Format, InRange, InRanges, prefix, in_front, field_of, fields_of, line_of}
 use Rattle.lines.specs.LineText.{numbers_text, line_text, widest}
-use Rattle.lines.specs.declared.numbers.Numeral.{Numeral}
-use Rattle.lines.specs.declared.numbers.Numeral.TheVariants.{Value, Not}
 use Rattle.lines.proofs.Decimals.{decimal-small, decimal-big, decimal-mono}
 use Rattle.lines.proofs.NumberTrip.{number-back, number_fits}
 use Rattle.lines.proofs.Prefix.{prefix-self, unbroken, unbroken-head}
@@ -115,39 +113,39 @@ line-joined w v vs r =
 
 -- ── what was read is in range ──
 
-field-range : (most : ℕ) (p : List ℕ) (v : ℕ) → field_of most p ≡ Value v → InRange most v
+field-range : (most : ℕ) (p : List ℕ) (v : ℕ) → field_of most p ≡ Some v → InRange most v
 unfolding field_of
 field-range most p v e = go (number_of p) refl e
   where
-    go : (n : Numeral) → number_of p ≡ n → elim n [ Value x ↦ elim (leb x most) [ true ↦ Value x | false ↦ Not ] | Not ↦ Not ] ≡ Value v →
+    go : (n : RustOption ℕ) → number_of p ≡ n → elim n [ Some x ↦ elim (leb x most) [ true ↦ Some x | false ↦ None ] | None ↦ None ] ≡ Some v →
         InRange most v
-    go Not q k = clash (cc)
-    go (Value x) q k = test (leb x most) refl k
+    go None q k = cc
+    go (Some x) q k = test (leb x most) refl k
       where
-        test : (b : Bool) → leb x most ≡ b → elim b [ true ↦ Value x | false ↦ Not ] ≡ Value v → InRange most v
+        test : (b : Bool) → leb x most ≡ b → elim b [ true ↦ Some x | false ↦ None ] ≡ Some v → InRange most v
         test true i k =
             let h : x ≡ v = cc in
             record { below = omega (arith, leb-true x most i, h); fits = omega (arith, number_fits p x q, h) }
-        test false i k = clash (cc)
+        test false i k = cc
 
 fields-range : (rs : List ℕ) (ps : List (List ℕ)) (vs : List ℕ) → fields_of rs ps ≡ some vs → InRanges rs vs
 unfolding fields_of
 fields-range [] [] [] e = tt
-fields-range [] [] (v ∷ vs) e = clash (cc)
-fields-range [] (p ∷ ps) vs e = clash (cc)
-fields-range (r ∷ rs) [] vs e = clash (cc)
+fields-range [] [] (v ∷ vs) e = cc
+fields-range [] (p ∷ ps) vs e = cc
+fields-range (r ∷ rs) [] vs e = cc
 fields-range (r ∷ rs) (p ∷ ps) vs e = go (field_of r p) (fields_of rs ps) refl refl vs e (fields-range rs ps)
   where
-    go : (n : Numeral) (o : Option (List ℕ)) → field_of r p ≡ n → fields_of rs ps ≡ o → (us : List ℕ) →
-        elim n [ Value v ↦ in_front v o | Not ↦ none ] ≡ some us →
+    go : (n : RustOption ℕ) (o : Option (List ℕ)) → field_of r p ≡ n → fields_of rs ps ≡ o → (us : List ℕ) →
+        elim n [ Some v ↦ in_front v o | None ↦ none ] ≡ some us →
         ((ws : List ℕ) → fields_of rs ps ≡ some ws → InRanges rs ws) → InRanges (r ∷ rs) us
-    go (Value v) (some ws) i j [] k ih = clash (cc)
-    go (Value v) (some ws) i j (u ∷ us) k ih =
+    go (Some v) (some ws) i j [] k ih = cc
+    go (Some v) (some ws) i j (u ∷ us) k ih =
         let h : v ≡ u = cc in
         let g : ws ≡ us = cc in
-        (field-range r p u (i ∙ ap Value h), ih us (j ∙ ap some g))
-    go (Value v) none i j us k ih = clash (cc)
-    go Not o i j us k ih = clash (cc)
+        (field-range r p u (i ∙ ap Some h), ih us (j ∙ ap some g))
+    go (Some v) none i j us k ih = cc
+    go None o i j us k ih = cc
 
 pub line-range : (f : Format) (p vs : List ℕ) → line_of f p ≡ some vs → InRanges f.largest vs
 unfolding line_of
@@ -157,7 +155,7 @@ line-range f p vs e = go (prefix f.word p) e
         elim b [ true ↦ fields_of f.largest (parts 44 (drop (length f.word) p)) | false ↦ none ] ≡ some vs →
         InRanges f.largest vs
     go true k = fields-range f.largest (parts 44 (drop (length f.word) p)) vs k
-    go false k = clash (cc)
+    go false k = cc
 
 -- a line has a number behind its word
 no_fields : (rs : List ℕ) → fields_of rs (parts 44 []) ≡ none
@@ -176,8 +174,8 @@ line-longer f p vs e = go (prefix f.word p) refl e (ltb (length f.word) (length 
     go true q k false l =
         let d : drop (length f.word) p ≡ [] = drop_of_length-le p (ltb-false _ _ l) in
         let n = sym (no_fields f.largest) ∙ ap (λ t. fields_of f.largest (parts 44 t)) (sym d) ∙ k in
-        clash (cc)
-    go false q k x l = clash (cc)
+        cc
+    go false q k x l = cc
 
 -- ── how long a written line is at most ──
 

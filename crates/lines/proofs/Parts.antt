@@ -1,10 +1,6 @@
 -- Laws of the parts of a list of bytes.
-use Rattle.std.proofs.Common.{◌≡◌, ℕ, suc, ◌+◌, ◌-◌, ◌<◌, ◌≤◌, Bool, true, false, eqb, List, [], ◌∷◌, length, take, drop, refl, ap, arith, length-drop, take_all, drop-drop, eq-eqb, ne_eqb}
+use Rattle.std.proofs.Common.{◌≡◌, ℕ, suc, ◌+◌, ◌<◌, ◌≤◌, Bool, true, false, eqb, List, [], ◌∷◌, length, drop, refl, ap, arith, length-drop, drop-drop, eq-eqb, ne_eqb}
 use Rattle.lines.specs.Parts.{until, onto, parts}
-
--- what `&s[k..]` holds
-pub rest_all : (k : ℕ) (s : List ℕ) → take (length s - k) (drop k s) ≡ drop k s
-rest_all k s = take_all (length s - k) (drop k s) (omega (arith, length-drop k s))
 
 -- one byte further
 module _ (c b : ℕ) (t : List ℕ) where

@@ -1,30 +1,22 @@
 -- Laws of the word that begins a line.
-use Rattle.std.proofs.Common.{◌≡◌, ℕ, suc, ◌+◌, ◌<◌, ◌≤◌, Bool, true, false, not, ◌&&◌, eqb, List, [], ◌∷◌, ◌++◌, length, get_or, drop, sym, refl, ap, ◌∙◌, add-one, arith, drop_of_length-le, drop-cons, eq-eqb, ne_eqb, eqb-true}
-use mathlib.Core.Bool.{false≢true}
+use Rattle.std.proofs.Common.{◌≡◌, ℕ, suc, ◌+◌, Bool, true, false, not, ◌&&◌, eqb, List, [], ◌∷◌, ◌++◌, length, drop, sym, refl, ap, ◌∙◌, arith, eq-eqb, ne_eqb, eqb-true}
+use Rattle.std.proofs.lemmas.Bool.Decides.{nat_tests}
+use Rattle.std.specs.List.{starts_with}
 use borrow.Author.Tests.{eqb-false}
 use Rattle.lines.specs.Parts.{until}
 use Rattle.lines.specs.Line.{prefix}
 use Rattle.lines.specs.Place.{line}
 use Rattle.lines.proofs.Parts.{until-go}
 
--- ── compared byte by byte ──
+eqb-swap : (x y : ℕ) → eqb x y ≡ eqb y x
+eqb-swap x y = grind (arith, nat_tests)
 
-pub prefix-end : (w s : List ℕ) (i : ℕ) → length w ≤ i → prefix (drop i w) (drop i s) ≡ true
+-- the library's test is ours
+pub starts_prefix : (w s : List ℕ) → starts_with eqb s w ≡ prefix w s
 unfolding prefix
-prefix-end w s i h = rw (drop_of_length-le w h) refl
-
-pub prefix-short : (w s : List ℕ) (i : ℕ) → i < length w → length s ≤ i → prefix (drop i w) (drop i s) ≡ false
-unfolding prefix
-prefix-short w s i h g = rw (drop_of_length-le s g, drop-cons w i 0 h) refl
-
-module _ (w s : List ℕ) (i : ℕ) (h : i < length w) (g : i < length s) where
-  pub prefix-step : get_or s i 0 ≡ get_or w i 0 → prefix (drop i w) (drop i s) ≡ prefix (drop (i + 1) w) (drop (i + 1) s)
-  unfolding prefix
-  prefix-step e = rw (drop-cons s i 0 g, drop-cons w i 0 h, eq-eqb (get_or s i 0) (get_or w i 0) e, add-one) refl
-
-  pub prefix-differ : (get_or s i 0 ≡ get_or w i 0 → ⊥) → prefix (drop i w) (drop i s) ≡ false
-  unfolding prefix
-  prefix-differ e = rw (drop-cons s i 0 g, drop-cons w i 0 h, ne_eqb (get_or s i 0) (get_or w i 0) e) refl
+starts_prefix [] s = refl
+starts_prefix (x ∷ w) [] = refl
+starts_prefix (x ∷ w) (b ∷ s) = rw (eqb-swap x b, starts_prefix w s) refl
 
 prefix_head : (x b : ℕ) (w t : List ℕ) → prefix (x ∷ w) (b ∷ t) ≡ true → (b ≡ x) × (prefix w t ≡ true)
 unfolding prefix
@@ -32,7 +24,7 @@ prefix_head x b w t h = go (eqb b x) refl h
   where
     go : (y : Bool) → eqb b x ≡ y → y && prefix w t ≡ true → (b ≡ x) × (prefix w t ≡ true)
     go true p k = (eqb-true b x p, k)
-    go false p k = absurd (false≢true k)
+    go false p k = cc
 
 pub prefix-self : (w s : List ℕ) → prefix w (w ++ s) ≡ true
 unfolding prefix
@@ -51,7 +43,7 @@ unfolding unbroken
 unbroken-head x w h = go (eqb x 10) refl h
   where
     go : (y : Bool) → eqb x 10 ≡ y → not y && unbroken w ≡ true → (x ≡ 10 → ⊥) × (unbroken w ≡ true)
-    go true p k = absurd (false≢true k)
+    go true p k = cc
     go false p k = (eqb-false x 10 p, k)
 
 pub prefix-line : (w t : List ℕ) → unbroken w ≡ true → prefix w (line t) ≡ prefix w t
@@ -74,7 +66,7 @@ Behind w t =
 pub behind-word : (w t : List ℕ) → unbroken w ≡ true → prefix w t ≡ true → Behind w t
 unfolding prefix until
 behind-word [] t h k = (refl, omega arith)
-behind-word (x ∷ w) [] h k = absurd (false≢true k)
+behind-word (x ∷ w) [] h k = cc
 behind-word (x ∷ w) (b ∷ t) h k =
     let f = unbroken-head x w h in
     let p = prefix_head x b w t k in

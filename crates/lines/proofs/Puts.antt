@@ -1,23 +1,26 @@
 -- Laws of a text in front of a buffer.
-use Rattle.std.proofs.Common.{◌≡◌, ℕ, ◌+◌, ◌<◌, ◌≤◌, Bool, true, false, ltb, List, [], ◌∷◌, ◌++◌, length, take, drop, set, sym, refl, ap, ◌∙◌, append_assoc, add-one, arith, length-append, length-drop, drop-cons, ltb-false, ltb-true, le-ltb, lt-ltb}
+use Rattle.std.proofs.Common.{◌≡◌, ℕ, ◌+◌, ◌<◌, ◌≤◌, Bool, true, false, ltb, List, [], ◌∷◌, ◌++◌, length, take, drop, set, sym, refl, ap, ◌∙◌, append_assoc, add-one, arith, length-append, length-drop, drop-cons, ltb-false, ltb-true, le-ltb, lt-ltb, Option, Some, None}
 use lib.Seq.{set_at, take-append_seam}
 use Rattle.lines.specs.Put.{written_of, front, put_of, left_of, PutIs}
-use Rattle.lines.specs.declared.writer.Put.{Put}
-use Rattle.lines.specs.declared.writer.Put.TheVariants.{Wrote, Short}
 
-pub put-short : (t o : List ℕ) → length o < length t → PutIs t o o Short
+pub put-short : (t o : List ℕ) → length o < length t → PutIs t o o None
 unfolding put_of left_of
 put-short t o h = record { answer = simp (lt-ltb _ _ h, put_of); bytes = simp (lt-ltb _ _ h, left_of) }
 
-pub put-fits : (t o p : List ℕ) (n : ℕ) → length t ≤ length o → n ≡ length t → p ≡ front t o → PutIs t o p (Wrote n)
+pub put-fits : (t o p : List ℕ) (n : ℕ) → length t ≤ length o → n ≡ length t → p ≡ front t o → PutIs t o p (Some n)
 unfolding put_of left_of
-put-fits t o p n h e q = record { answer = simp (le-ltb _ _ h, put_of) (ap Wrote e); bytes = simp (le-ltb _ _ h, left_of) q }
+put-fits t o p n h e q = record { answer = simp (le-ltb _ _ h, put_of) (ap Some e); bytes = simp (le-ltb _ _ h, left_of) q }
+
+-- the same where it was put, since the buffer is as long as it was
+pub put-filled : (t o p : List ℕ) (n : ℕ) → length p ≡ length o → n ≡ length t → p ≡ front t o → PutIs t o p (Some n)
+unfolding front
+put-filled t o p n h e q = put-fits t o p n (omega (arith, h, ap length q, length-append t (drop (length t) o))) e q
 
 -- a text that fits is in front
-pub put-done : (t o p : List ℕ) (r : Put) → length t ≤ length o → PutIs t o p r → (written_of r ≡ length t) × (p ≡ front t o)
+pub put-done : (t o p : List ℕ) (r : Option ℕ) → length t ≤ length o → PutIs t o p r → (written_of r ≡ length t) × (p ≡ front t o)
 unfolding put_of left_of
 put-done t o p r h i =
-    let e : put_of t o ≡ Wrote (length t) = simp (le-ltb _ _ h, put_of) in
+    let e : put_of t o ≡ Some (length t) = simp (le-ltb _ _ h, put_of) in
     let f : left_of t o ≡ front t o = simp (le-ltb _ _ h, left_of) in
     (ap written_of (i.answer ∙ e), i.bytes ∙ f)
 
@@ -28,7 +31,7 @@ put-nowhere [] = (refl, refl)
 put-nowhere (b ∷ t) = let i = put-short (b ∷ t) [] (omega arith) in (sym (ap written_of i.answer), sym i.bytes)
 
 -- no more is written than there is room for
-pub put-within : (t o p : List ℕ) (r : Put) → PutIs t o p r → written_of r ≤ length o
+pub put-within : (t o p : List ℕ) (r : Option ℕ) → PutIs t o p r → written_of r ≤ length o
 put-within t o p r i = go (ltb (length o) (length t)) refl
   where
     go : (b : Bool) → ltb (length o) (length t) ≡ b → written_of r ≤ length o
@@ -36,7 +39,7 @@ put-within t o p r i = go (ltb (length o) (length t)) refl
     go false e = let h = ltb-false (length o) (length t) e in omega (arith, h, (put-done t o p r h i).0)
 
 -- and the buffer is as long as it was
-pub put_whole : (t o p : List ℕ) (r : Put) → PutIs t o p r → length t ≤ length o →
+pub put_whole : (t o p : List ℕ) (r : Option ℕ) → PutIs t o p r → length t ≤ length o →
     (written_of r ≡ length t) × (p ≡ front t o) × (length p ≡ length o)
 unfolding front
 put_whole t o p r i h =

@@ -1,5 +1,7 @@
 -- A number that begins at a place of a text: where it ends, and what stands behind it.
-use Rattle.std.proofs.Common.{◌≡◌, ℕ, suc, ◌+◌, ◌<◌, ◌≤◌, Bool, true, false, eqb, ltb, List, [], ◌∷◌, length, get_or, drop, sym, refl, ap, ◌∙◌, subst, add-one, arith, length-drop, drop_of_length-le, get_or-drop, drop-cons, drop-drop, ltb-true, le-ltb, lt-ltb, eq-eqb, ne_eqb, eqb-true}
+use Rattle.std.proofs.Common.{◌≡◌, ℕ, suc, ◌+◌, ◌<◌, ◌≤◌, Bool, true, false, eqb, ltb, List, [], ◌∷◌, length, get_or, drop, sym, refl, ap, ◌∙◌, subst, add-one, arith, length-drop, drop_of_length-le, get_or-drop, drop-cons, drop-drop, ltb-true, le-ltb, lt-ltb, eq-eqb, ne_eqb, eqb-true, Option, Some, None}
+use Rattle.std.specs.Bool.{then_some}
+use Rattle.std.proofs.lemmas.Option.{some_pair_parts}
 use mathlib.Core.Bool.{false≢true}
 use borrow.Author.Tests.{eqb-false}
 use Rattle.lines.specs.Number.{push_of, digits_of, number_of}
@@ -8,10 +10,6 @@ use Rattle.lines.specs.Place.{line, field, line_end, spell, spelled_at}
 use Rattle.lines.specs.Steps.{ends_of, spelling, comma_at}
 use Rattle.lines.proofs.Parts.{until-at, until-go, parts_at, parts-go}
 use Rattle.lines.proofs.Numerals.{push-none, push-value}
-use Rattle.lines.specs.declared.numbers.Numeral.{Numeral}
-use Rattle.lines.specs.declared.numbers.Numeral.TheVariants.{Value, Not}
-use Rattle.lines.specs.declared.numbers.Spelled.{Spelled}
-use Rattle.lines.specs.declared.numbers.Spelled.TheVariants.{Ended, Broken}
 
 -- ── a byte that ends a number ──
 
@@ -24,10 +22,7 @@ unfolding ends_of
 ends-other b e = simp (ne_eqb b 44 e, ends_of)
 
 not-lf : (b : ℕ) → ends_of b ≡ false → b ≡ 10 → ⊥
-not-lf b h e = false≢true (sym h ∙ sym (ends-other b (λ (k : b ≡ 44). clash (sym e ∙ k))) ∙ eq-eqb b 10 e)
-  where
-    clash : ◌≡◌ {A = ℕ} 10 44 → ⊥
-    clash k = omega (arith, k)
+not-lf b h e = false≢true (sym h ∙ sym (ends-other b (λ k. omega arith)) ∙ eq-eqb b 10 e)
 
 not-comma : (b : ℕ) → ends_of b ≡ false → b ≡ 44 → ⊥
 not-comma b h e = false≢true (sym h ∙ sym (ends-comma b e))
@@ -39,17 +34,14 @@ ends-small b h = go (eqb b 44) refl
     go true q = let k : b ≡ 44 = eqb-true b 44 q in omega (arith, k)
     go false q = let k : b ≡ 10 = eqb-true b 10 (ends-other b (eqb-false b 44 q) ∙ h) in omega (arith, k)
 
-abbrev is_value : Numeral → Bool
-is_value (Value x) = true
-is_value Not = false
-
-digit-goes-on : (v b w : ℕ) → Value w ≡ push_of v b → ends_of b ≡ false
+digit-goes-on : (v b w : ℕ) → Some w ≡ push_of v b → ends_of b ≡ false
 digit-goes-on v b w h = go (ends_of b) refl
   where
     go : (y : Bool) → ends_of b ≡ y → ends_of b ≡ false
     go true q =
         let s = ends-small b q in
-        absurd (false≢true (sym (ap is_value (h ∙ sym (push-none v b (λ (k : 48 ≤ b). absurd (omega (arith, k, s))))))))
+        let n = push-none v b (λ k. absurd (omega arith)) in
+        cc
     go false q = q
 
 -- ── the first field of a line, byte by byte ──
@@ -84,35 +76,41 @@ module _ (s : List ℕ) (i : ℕ) (h : i < length s) where
 
 -- ── digits read one by one ──
 
-pub spelling-on : (v w : ℕ) (s : List ℕ) (i : ℕ) → i < length s → Value w ≡ push_of v (get_or s i 0) →
+pub spelling-on : (v w : ℕ) (s : List ℕ) (i : ℕ) → i < length s → Some w ≡ push_of v (get_or s i 0) →
     spelling v s i ≡ spelling w s (i + 1)
 unfolding spelling digits_of
 spelling-on v w s i h e =
     let f = field-on s i h (digit-goes-on v (get_or s i 0) w e) in
     rw (f, ← e, digits_of) (ap (spell (digits_of w (field (drop (i + 1) s)))) (omega arith))
 
-spelling-nothing : (v : ℕ) (s : List ℕ) (i : ℕ) → field (drop i s) ≡ [] → spelling v s i ≡ Ended v i
+spelling-nothing : (v : ℕ) (s : List ℕ) (i : ℕ) → field (drop i s) ≡ [] → spelling v s i ≡ Some (v, i)
 unfolding spelling digits_of
-spelling-nothing v s i e = rw e (ap (Ended v) (omega arith))
+spelling-nothing v s i e = rw e (ap (λ e. Some (v, e)) (omega arith))
 
-pub spelling-out : (v : ℕ) (s : List ℕ) (i : ℕ) → length s ≤ i → spelling v s i ≡ Ended v i
+pub spelling-out : (v : ℕ) (s : List ℕ) (i : ℕ) → length s ≤ i → spelling v s i ≡ Some (v, i)
 spelling-out v s i h = spelling-nothing v s i (field_out s i h)
 
-pub spelling-stop : (v : ℕ) (s : List ℕ) (i : ℕ) → i < length s → ends_of (get_or s i 0) ≡ true → spelling v s i ≡ Ended v i
+pub spelling-stop : (v : ℕ) (s : List ℕ) (i : ℕ) → i < length s → ends_of (get_or s i 0) ≡ true → spelling v s i ≡ Some (v, i)
 spelling-stop v s i h e = spelling-nothing v s i (field-stop s i h e)
 
 pub spelling-bad : (v : ℕ) (s : List ℕ) (i : ℕ) → i < length s → ends_of (get_or s i 0) ≡ false →
-    Not ≡ push_of v (get_or s i 0) → spelling v s i ≡ Broken
+    None ≡ push_of v (get_or s i 0) → spelling v s i ≡ None
 unfolding spelling digits_of
 spelling-bad v s i h g e = rw (field-on s i h g, ← e, digits_of) refl
 
+-- what stands there is no digit: it ends the number, or there is none
+pub spelling-ends : (v : ℕ) (s : List ℕ) (i : ℕ) (b : Bool) → i < length s → b ≡ ends_of (get_or s i 0) → None ≡ push_of v (get_or s i 0) →
+    then_some b (v, i) ≡ spelling v s i
+spelling-ends v s i true h e n = sym (spelling-stop v s i h (sym e))
+spelling-ends v s i false h e n = sym (spelling-bad v s i h (sym e) n)
+
 -- ── a whole number ──
 
-spelled-nothing : (s : List ℕ) (at : ℕ) → field (drop at s) ≡ [] → Broken ≡ spelled_at s at
+spelled-nothing : (s : List ℕ) (at : ℕ) → field (drop at s) ≡ [] → None ≡ spelled_at s at
 unfolding spelled_at number_of
 spelled-nothing s at e = rw e refl
 
-pub spelled_out : (s : List ℕ) (at : ℕ) → length s ≤ at → Broken ≡ spelled_at s at
+pub spelled_out : (s : List ℕ) (at : ℕ) → length s ≤ at → None ≡ spelled_at s at
 spelled_out s at h = spelled-nothing s at (field_out s at h)
 
 module _ (s : List ℕ) (at : ℕ) (h : at < length s) where
@@ -121,10 +119,10 @@ module _ (s : List ℕ) (at : ℕ) (h : at < length s) where
   spelled-as-digits e n = rw (field-on s at h e, ne_eqb (get_or s at 0) 48 n, number_of) refl
 
   -- no digit stands there
-  pub spelled_none : (48 ≤ get_or s at 0 → 57 < get_or s at 0) → Broken ≡ spelled_at s at
+  pub spelled_none : (48 ≤ get_or s at 0 → 57 < get_or s at 0) → None ≡ spelled_at s at
   spelled_none n = go (ends_of (get_or s at 0)) refl
     where
-      go : (x : Bool) → ends_of (get_or s at 0) ≡ x → Broken ≡ spelled_at s at
+      go : (x : Bool) → ends_of (get_or s at 0) ≡ x → None ≡ spelled_at s at
       go true e = spelled-nothing s at (field-stop s at h e)
       go false e =
           sym (spelling-bad 0 s at h e (push-none 0 _ n))
@@ -132,7 +130,7 @@ module _ (s : List ℕ) (at : ℕ) (h : at < length s) where
 
   -- a digit stands there
   module _ (d : ℕ) (is : d + 48 ≡ get_or s at 0) (k : d ≤ 9) where
-    first : Value d ≡ push_of 0 (get_or s at 0)
+    first : Some d ≡ push_of 0 (get_or s at 0)
     first = push-value 0 _ d is k d (omega arith) (omega arith)
 
     on : ends_of (get_or s at 0) ≡ false
@@ -146,17 +144,17 @@ module _ (s : List ℕ) (at : ℕ) (h : at < length s) where
       zero-there : get_or s at 0 ≡ 48
       zero-there = omega arith
 
-      spelled-zero : field (drop (at + 1) s) ≡ [] → Ended 0 (at + 1) ≡ spelled_at s at
+      spelled-zero : field (drop (at + 1) s) ≡ [] → Some (0, at + 1) ≡ spelled_at s at
       unfolding spelled_at number_of
       spelled-zero f = rw (field-on s at h on, eq-eqb (get_or s at 0) 48 zero-there, f, number_of) refl
 
-      pub spelled-zero-out : length s ≤ at + 1 → Ended 0 (at + 1) ≡ spelled_at s at
+      pub spelled-zero-out : length s ≤ at + 1 → Some (0, at + 1) ≡ spelled_at s at
       spelled-zero-out l = spelled-zero (field_out s (at + 1) l)
 
-      pub spelled-zero-stop : at + 1 < length s → ends_of (get_or s (at + 1) 0) ≡ true → Ended 0 (at + 1) ≡ spelled_at s at
+      pub spelled-zero-stop : at + 1 < length s → ends_of (get_or s (at + 1) 0) ≡ true → Some (0, at + 1) ≡ spelled_at s at
       spelled-zero-stop l g = spelled-zero (field-stop s (at + 1) l g)
 
-      pub spelled-lead : at + 1 < length s → ends_of (get_or s (at + 1) 0) ≡ false → Broken ≡ spelled_at s at
+      pub spelled-lead : at + 1 < length s → ends_of (get_or s (at + 1) 0) ≡ false → None ≡ spelled_at s at
       unfolding spelled_at number_of
       spelled-lead l g =
           let m : length (field (drop (at + 1) s)) ≡ suc (length (field (drop (at + 1 + 1) s))) =
@@ -170,50 +168,35 @@ module _ (s : List ℕ) (at : ℕ) (h : at < length s) where
 
 -- ── what a number that was read tells ──
 
-abbrev is_ended : Spelled → Bool
-is_ended (Ended x e) = true
-is_ended Broken = false
-
-abbrev end_in : Spelled → ℕ
-end_in (Ended x e) = e
-end_in Broken = 0
-
-abbrev value_in : Spelled → ℕ
-value_in (Ended x e) = x
-value_in Broken = 0
-
 pub record Number (s : List ℕ) (at x e : ℕ) : Type 0 where
-  pub is : number_of (field (drop at s)) ≡ Value x
+  pub is : number_of (field (drop at s)) ≡ Some x
   pub place : e ≡ at + length (field (drop at s))
 
-pub ended : (s : List ℕ) (at x e : ℕ) → Ended x e ≡ spelled_at s at → Number s at x e
+pub ended : (s : List ℕ) (at x e : ℕ) → Some (x, e) ≡ spelled_at s at → Number s at x e
 unfolding spelled_at
 ended s at x e h = go (number_of (field (drop at s))) refl h
   where
-    go : (n : Numeral) → number_of (field (drop at s)) ≡ n →
-        Ended x e ≡ spell n (at + length (field (drop at s))) → Number s at x e
-    go (Value y) p k = record { is = p ∙ ap (λ (z : Spelled). Value (value_in z)) (sym k); place = ap end_in k }
-    go Not p k = absurd (false≢true (sym (ap is_ended k)))
+    go : (n : Option ℕ) → number_of (field (drop at s)) ≡ n →
+        Some (x, e) ≡ spell n (at + length (field (drop at s))) → Number s at x e
+    go (Some y) p k = let q = some_pair_parts x y e _ k in record { is = p ∙ ap Some (sym q.0); place = q.1 }
+    go None p k = cc
 
-pub broken : (s : List ℕ) (at : ℕ) → Broken ≡ spelled_at s at → number_of (field (drop at s)) ≡ Not
+pub broken : (s : List ℕ) (at : ℕ) → None ≡ spelled_at s at → number_of (field (drop at s)) ≡ None
 unfolding spelled_at
 broken s at h = go (number_of (field (drop at s))) refl h
   where
-    go : (n : Numeral) → number_of (field (drop at s)) ≡ n →
-        Broken ≡ spell n (at + length (field (drop at s))) → number_of (field (drop at s)) ≡ Not
-    go (Value y) p k = absurd (false≢true (ap is_ended k))
-    go Not p k = p
+    go : (n : Option ℕ) → number_of (field (drop at s)) ≡ n →
+        None ≡ spell n (at + length (field (drop at s))) → number_of (field (drop at s)) ≡ None
+    go (Some y) p k = cc
+    go None p k = p
 
 -- ── what stands behind the first field of a line ──
-
-nil-cons : (x : ℕ) (f : List ℕ) → [] ≡ x ∷ f → ⊥
-nil-cons x f e = let k : ◌≡◌ {A = ℕ} 0 (suc (length f)) = ap length e in omega (arith, k)
 
 not_end : (b x : ℕ) (t f : List ℕ) → field (b ∷ t) ≡ x ∷ f → ends_of b ≡ false
 not_end b x t f e = go (ends_of b) refl
   where
     go : (y : Bool) → ends_of b ≡ y → ends_of b ≡ false
-    go true p = absurd (nil-cons x f (sym (field_end b t p) ∙ e))
+    go true p = let h = field_end b t p in cc
     go false p = p
 
 -- a field that is nothing ends at a line feed where no comma stands
@@ -223,7 +206,7 @@ ends-line b t e n = go (eqb b 10) refl
     go : (y : Bool) → eqb b 10 ≡ y → b ≡ 10
     go true p = eqb-true b 10 p
     go false p =
-        absurd (nil-cons b (field t) (sym e ∙ ap (until 44) (until-go 10 b t (eqb-false b 10 p)) ∙ until-go 44 b (until 10 t) n))
+        let h = ap (until 44) (until-go 10 b t (eqb-false b 10 p)) ∙ until-go 44 b (until 10 t) n in cc
 
 onto-cons : (b x : ℕ) (f : List ℕ) (ps qs : List (List ℕ)) → b ≡ x → ps ≡ f ∷ qs → onto b ps ≡ (x ∷ f) ∷ qs
 unfolding onto
@@ -281,7 +264,7 @@ comma-is s e h = go (ltb e (length s)) refl h
     go : (x : Bool) → ltb e (length s) ≡ x → elim x [ true ↦ eqb (get_or s e 0) 44 | false ↦ false ] ≡ true →
         (e < length s) × (get_or s e 0 ≡ 44)
     go true p k = (ltb-true _ _ p, eqb-true _ _ k)
-    go false p k = absurd (false≢true k)
+    go false p k = cc
 
 comma-not : (s : List ℕ) (e : ℕ) → comma_at s e ≡ false → e < length s → get_or s e 0 ≡ 44 → ⊥
 unfolding comma_at
@@ -322,3 +305,6 @@ module _ (s : List ℕ) (at e : ℕ) (i : e ≡ at + length (field (drop at s)))
 
 -- what a number from a place on is, case by case
 pub ruleset number_cases = (spelled_out, spelled_none, spelled-digits, spelled-zero-out, spelled-zero-stop, spelled-lead)
+
+-- what is left of a number, byte by byte
+pub ruleset spelling_cases = (spelling-on, spelling-out, spelling-ends)

@@ -1,15 +1,10 @@
 -- A text that is written piece by piece to the front of a buffer.
-use Rattle.std.proofs.Common.{◌≡◌, ℕ, ◌+◌, ◌-◌, ◌<◌, ◌≤◌, List, [], ◌∷◌, ◌++◌, length, get_or, take, drop, set, sym, refl, ap, ◌∙◌, subst, append_assoc, append-nil, zero-add, add-one, arith, length-append, length-drop, drop_of_length-le, length-take, length-take-le, take_all, drop-cons, drop-drop, take_at, take-add, drop_at}
+use Rattle.std.proofs.Common.{◌≡◌, ℕ, ◌+◌, ◌-◌, ◌<◌, ◌≤◌, List, [], ◌∷◌, ◌++◌, length, take, drop, set, sym, refl, ap, ◌∙◌, subst, append_assoc, append-nil, zero-add, add-one, arith, length-append, length-drop, drop_of_length-le, length-take, length-take-le, take_all, drop-drop, take_at, take-add, drop_at, Option}
 use lib.Seq.{take-length, take-append_seam, drop-append_seam, set_split}
 use Rattle.lines.specs.Append.{AppendIs}
 use Rattle.lines.specs.Put.{written_of, front, put_of, left_of, PutIs}
-use Rattle.lines.specs.declared.writer.Put.{Put}
-use Rattle.lines.proofs.Parts.{rest_all}
+use Rattle.std.proofs.lemmas.List.{take_rest}
 use Rattle.lines.proofs.Puts.{put-done, put-nowhere, put-within}
-
--- one element more
-pub drop-next : (l : List ℕ) (i : ℕ) → i < length l → drop i l ≡ get_or l i 0 ∷ drop (i + 1) l
-drop-next l i h = rw add-one (drop-cons l i 0 h)
 
 -- of the text t the first at bytes are written over the buffer o, and u is left to write
 pub record Writing (t o out : List ℕ) (at : ℕ) (u : List ℕ) : Type 0 where
@@ -68,7 +63,7 @@ lent-all out at ys =
 pub writing-part : {t o out : List ℕ} {at : ℕ} (p u ys : List ℕ) (n : ℕ) → Writing t o out at (p ++ u) →
     ys ≡ front p (take (length out - at) (drop at out)) → n ≡ length p
     → Writing t o (lent out at ys) (at + n) u
-writing-part {t} {o} {out} {at} p u ys n w f e = rw (e, lent-all out at ys, f, rest_all at out) (writing-piece p u w)
+writing-part {t} {o} {out} {at} p u ys n w f e = rw (e, lent-all out at ys, f, take_rest out at) (writing-piece p u w)
 
 pub writing-byte : {t o out : List ℕ} {at : ℕ} (b : ℕ) (u : List ℕ) → Writing t o out at (b ∷ u) → Writing t o (set out at b) (at + 1) u
 unfolding front
@@ -81,8 +76,33 @@ writing-byte {t} {o} {out} {at} b u w =
 pub writing-first : {t o : List ℕ} (p u ys : List ℕ) (n : ℕ) → Writing t o o 0 (p ++ u) → ys ≡ front p o → n ≡ length p → Writing t o ys n u
 writing-first {t} {o} p u ys n w f e = rw (f, e, ← zero-add (length p)) (writing-piece p u w)
 
+-- ── a text of two pieces: the first to `out` as a whole, the second to `&mut out[n..]` ──
+module _ (p q t o : List ℕ) (s : t ≡ p ++ q) (h : length t ≤ length o) where
+  pub first-room : length p ≤ length o
+  first-room = omega (arith, ap length s ∙ length-append p q, h)
+
+  module _ (ys : List ℕ) (n : ℕ) (e : n ≡ length p) (f : ys ≡ front p o) where
+    first-written : Writing t o ys n q
+    first-written = writing-first p q ys n (writing-as s (writing_start t o h)) f e
+
+    pub second-room : length q ≤ length (take (length ys - n) (drop n ys))
+    second-room = rw (take_rest ys n, length-drop n ys) (omega (arith, writing-room first-written))
+
+    pub second-within : n ≤ length ys
+    second-within = omega (arith, writing-room first-written)
+
+    module _ (zs : List ℕ) (m : ℕ) (k : m ≡ length q) (g : zs ≡ front q (take (length ys - n) (drop n ys))) where
+      both : Writing t o (lent ys n zs) (n + m) []
+      both = writing-part q [] zs m (writing-as (sym (append-nil q)) first-written) g k
+
+      pub both-written : (n + m ≡ length t) × (lent ys n zs ≡ front t o)
+      both-written = writing-done both refl
+
+      pub both-within : n + m ≤ length o
+      both-within = let w = both in omega (arith, writing-room w, writing-length w)
+
 -- ── pieces that writers put, which answer r ──
-module _ {t o : List ℕ} (p u ys : List ℕ) (r : Put) (n : ℕ) where
+module _ {t o : List ℕ} (p u ys : List ℕ) (r : Option ℕ) (n : ℕ) where
   -- the first piece
   pub writing-put-first : Writing t o o 0 (p ++ u) → PutIs p o ys r → n ≡ written_of r → Writing t o ys n u
   writing-put-first w d e =
@@ -94,23 +114,23 @@ module _ {t o : List ℕ} (p u ys : List ℕ) (r : Put) (n : ℕ) where
       n ≡ written_of r → Writing t o (lent out at ys) (at + n) u
   writing-put {out} {at} w d e =
       let k = put-done p (take (length out - at) (drop at out)) ys r
-      (rw (rest_all at out, length-drop at out) (omega (arith, length-append p u, writing-room w))) d in
+      (rw (take_rest out at, length-drop at out) (omega (arith, length-append p u, writing-room w))) d in
       writing-part p u ys n w k.1 (e ∙ k.0)
 
 -- ── a piece appended at a place ──
 module _ (p out : List ℕ) (at : ℕ) where
   -- by a writer that was lent `&mut out[at..]`
-  pub append-put : (ys : List ℕ) (r : Put) (n : ℕ) → PutIs p (take (length out - at) (drop at out)) ys r → n ≡ written_of r →
+  pub append-put : (ys : List ℕ) (r : Option ℕ) (n : ℕ) → PutIs p (take (length out - at) (drop at out)) ys r → n ≡ written_of r →
       AppendIs p at out (lent out at ys) (at + n)
   append-put ys r n d e =
-      let i = subst (λ l. PutIs p l ys r) (rest_all at out) d in
+      let i = subst (λ l. PutIs p l ys r) (take_rest out at) d in
       record {
         place = ap (λ m. at + m) (e ∙ ap written_of i.answer);
         bytes = lent-all out at ys ∙ ap (λ l. take at out ++ l) i.bytes;
       }
 
   -- which has not gone past the end
-  pub append-within : (ys : List ℕ) (r : Put) → at ≤ length out → PutIs p (take (length out - at) (drop at out)) ys r →
+  pub append-within : (ys : List ℕ) (r : Option ℕ) → at ≤ length out → PutIs p (take (length out - at) (drop at out)) ys r →
       at + written_of r ≤ length out
   append-within ys r h d = omega (arith, h, put-within p _ ys r d, length-take (length out - at) (drop at out))
 

@@ -3,8 +3,8 @@ use Rattle.std.specs.Prelude.{ℕ, ◌-◌, ◌^◌, ◌<◌, ◌≤◌, Bool, t
 use Rattle.std.proofs.Math.Option.{Option, some, none}
 use Rattle.lines.specs.Number.{number_of}
 use Rattle.lines.specs.Parts.{parts}
-use Rattle.lines.specs.declared.numbers.Numeral.{Numeral}
-use Rattle.lines.specs.declared.numbers.Numeral.TheVariants.{Value, Not}
+use Rattle.std.specs.Prelude.{Some, None}
+use Rattle.std.specs.Prelude.{Option as RustOption}
 
 -- the word that begins a line, its '=' included, and the largest number of each field
 pub record Format : Type 0 where
@@ -23,15 +23,15 @@ in_front v (some vs) = some (v ∷ vs)
 in_front v none = none
 
 -- a field is a number up to its largest
-unfoldable pub field_of : (most : ℕ) → List ℕ → Numeral
-field_of most p = elim (number_of p) [ Value v ↦ elim (nat_le v most) [ true ↦ Value v | false ↦ Not ] | Not ↦ Not ]
+unfoldable pub field_of : (most : ℕ) → List ℕ → RustOption ℕ
+field_of most p = elim (number_of p) [ Some v ↦ elim (nat_le v most) [ true ↦ Some v | false ↦ None ] | None ↦ None ]
 
 -- each part is a field, and there are as many parts as fields
 unfoldable pub fields_of : (largest : List ℕ) → List (List ℕ) → Option (List ℕ)
 fields_of [] [] = some []
 fields_of [] (p ∷ ps) = none
 fields_of (m ∷ ms) [] = none
-fields_of (m ∷ ms) (p ∷ ps) = elim (field_of m p) [ Value v ↦ in_front v (fields_of ms ps) | Not ↦ none ]
+fields_of (m ∷ ms) (p ∷ ps) = elim (field_of m p) [ Some v ↦ in_front v (fields_of ms ps) | None ↦ none ]
 
 -- the numbers of the line s, where it is one of the format f
 unfoldable pub line_of : Format → List ℕ → Option (List ℕ)

@@ -1,15 +1,10 @@
 -- A number and a line that begin at a place of a text, and where they end.
-use Rattle.std.specs.Prelude.{ℕ, zero, suc, ◌+◌, min, true, false, List, [], ◌∷◌, length, drop, slice_index}
+use Rattle.std.specs.Prelude.{ℕ, ◌+◌, true, false, List, length, drop, Some, None}
+use Rattle.std.specs.Prelude.{Option as RustOption}
 use Rattle.std.proofs.Math.Option.{Option, some, none}
 use Rattle.lines.specs.Number.{number_of}
 use Rattle.lines.specs.Parts.{until, parts}
 use Rattle.lines.specs.Line.{Format, prefix, fields_of}
-use Rattle.lines.specs.declared.numbers.Numeral.{Numeral}
-use Rattle.lines.specs.declared.numbers.Numeral.TheVariants.{Value, Not}
-use Rattle.lines.specs.declared.numbers.Spelled.{Spelled}
-use Rattle.lines.specs.declared.numbers.Spelled.TheVariants.{Ended, Broken}
-use Rattle.lines.specs.declared.lines.Place.{Place}
-use Rattle.lines.specs.declared.lines.Place.TheVariants.{At, Nowhere}
 
 -- the first line of t, up to its line feed or the end of t
 abbrev pub line : List ℕ → List ℕ
@@ -24,12 +19,12 @@ abbrev pub line_end : List ℕ → ℕ → ℕ
 line_end s at = at + length (line (drop at s))
 
 -- a number and the place behind it
-abbrev pub spell : Numeral → ℕ → Spelled
-spell (Value v) e = Ended v e
-spell Not e = Broken
+abbrev pub spell : RustOption ℕ → ℕ → RustOption (ℕ × ℕ)
+spell (Some v) e = Some (v, e)
+spell None e = None
 
 -- the number from a place on, up to a comma, a line feed or the end
-unfoldable pub spelled_at : List ℕ → ℕ → Spelled
+unfoldable pub spelled_at : List ℕ → ℕ → RustOption (ℕ × ℕ)
 spelled_at s at = spell (number_of (field (drop at s))) (at + length (field (drop at s)))
 
 -- the numbers of a line and where it ends; or nothing
@@ -53,19 +48,11 @@ line_at f s at =
       | false ↦ nothing
     ]
 
--- the first n numbers of v
-abbrev pub cells_from : ℕ → ℕ → List ℕ → List ℕ
-cells_from zero i v = []
-cells_from (suc n) i v = slice_index v i ∷ cells_from n (suc i) v
+-- the word w, and as many fields as there are numbers in `most`
+abbrev pub format_of : (w most : List ℕ) → Format
+format_of w most = record { word = w; largest = most }
 
-abbrev pub cells : ℕ → List ℕ → List ℕ
-cells n v = cells_from n 0 v
-
--- the word w and n fields, six at most
-abbrev pub format_of : (w : List ℕ) (n : ℕ) (most : List ℕ) → Format
-format_of w n most = record { word = w; largest = cells (min n 6) most }
-
--- what an answer says, where its numbers are the first n of v, six at most
-unfoldable pub found_in : Place → ℕ → List ℕ → Found
-found_in (At e) n v = found (cells (min n 6) v) e
-found_in Nowhere n v = nothing
+-- what an answer says: the numbers of a line and where it ends; or nothing
+unfoldable pub found_in : RustOption (List ℕ × ℕ) → Found
+found_in (Some (vs, e)) = found vs e
+found_in None = nothing

@@ -5,8 +5,5 @@ mod lines;
 mod numbers;
 mod writer;
 
-pub use lines::{Place, line_at};
-pub use writer::{
-    Fields, Put, append_number_line, number_width, numbers_width, put_bytes, put_line, put_number,
-    put_number_line, written,
-};
+pub use lines::line_at;
+pub use writer::{FIELDS, append_line, numbers_width, put_bytes, put_line, put_number};

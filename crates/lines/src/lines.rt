@@ -1,84 +1,52 @@
 // A line at a place of a text: its word, and its numbers in their ranges.
-ghost use Rattle.std.specs.Prelude.{◌≡◌, ◌≤◌};
-ghost use Rattle.lines.specs.Line.{prefix};
-ghost use Rattle.lines.specs.Place.{cells, fields_at, format_of, line_at, found_in};
+ghost use Rattle.std.specs.Prelude.{◌≡◌};
+ghost use Rattle.lines.specs.Place.{fields_at, format_of, line_at, found_in};
 ghost use Rattle.lines.specs.Steps.{comma_at};
 
-use crate::numbers::{Spelled, number_at};
-use basics::least;
-
-// Where a line ends, its line feed or the end of the text; or it is none.
-#[derive(Drop)]
-pub enum Place {
-    At(usize),
-    Nowhere,
-}
-
-// Whether s begins with w.
-fn begins(s: &[u8], w: &[u8]) -> bool
-    ensures { result ≡ prefix w.now s.now }
-{
-    let mut i = 0;
-    while i < w.len() {
-        if s.len() <= i {
-            return false;
-        }
-        if s[i] != w[i] {
-            return false;
-        }
-        i += 1;
-    }
-    true
-}
+use crate::numbers::number_at;
 
 // Whether a comma stands at e.
+#[tactic(auto, unfolding(crate::specs::Steps::comma_at))]
 fn comma(s: &[u8], e: usize) -> bool
     ensures { result ≡ comma_at s.now e }
 {
-    if e < s.len() { s[e] == 44 } else { false }
+    e < s.len() && s[e] == b','
 }
 
-// The fields from at on to the line's end, n of them, each up to its number in most, into v.
-fn fields_at(s: &[u8], at: usize, n: usize, most: &[u64; 6], v: &mut [u64; 6]) -> Place
-    requires { n ≤ 6 }
-    ensures { found_in result n v.new ≡ fields_at (cells n most.now) s.now at }
+// The fields from at on to the line's end, each up to its number in most; and where the line ends, its line feed or the end of the text.
+fn fields_at<const N: usize>(s: &[u8], at: usize, most: &[u64; N]) -> Option<([u64; N], usize)>
+    ensures { found_in result ≡ fields_at most.now s.now at }
 {
-    *v = [0; 6];
-    let mut i: usize = 0;
+    let mut numbers = [0; N];
     let mut p = at;
-    while i < n {
-        match number_at(s, p) {
-            Spelled::Ended(x, e) => {
-                if most[i] < x {
-                    return Place::Nowhere;
-                }
-                v[i] = x;
-                i += 1;
-                if !comma(s, e) {
-                    if i < n {
-                        return Place::Nowhere;
-                    }
-                    return Place::At(e);
-                }
-                p = e + 1;
-            }
-            Spelled::Broken => {
-                return Place::Nowhere;
-            }
+    // i is a place in both arrays.
+    for i in 0..N {
+        let (x, e) = number_at(s, p)?;
+        if most[i] < x {
+            return None;
         }
+        numbers[i] = x;
+        if !comma(s, e) {
+            return (i + 1 == N).then_some((numbers, e));
+        }
+        p = e + 1;
     }
-    Place::Nowhere
+    None
 }
 
-// The line from at on with the word w and n fields, six at most, each up to its number in most: its numbers go into v.
-pub fn line_at(s: &[u8], at: usize, w: &[u8], n: usize, most: &[u64; 6], v: &mut [u64; 6]) -> Place
-    ensures { found_in result n v.new ≡ line_at (format_of w.now n most.now) s.now at }
+// The line from at on with this word and as many fields as `most` has numbers, each up to its own there: the fields and where the line ends.
+// It is put into each caller, whose word and ranges are constants: reading a schedule takes half the time so.
+#[inline(always)]
+pub fn line_at<const N: usize>(
+    s: &[u8],
+    at: usize,
+    word: &[u8],
+    most: &[u64; N],
+) -> Option<([u64; N], usize)>
+    ensures { found_in result ≡ line_at (format_of word.now most.now) s.now at }
 {
-    if s.len() < at {
-        return Place::Nowhere;
+    if !s.get(at..)?.starts_with(word) {
+        return None;
     }
-    if !begins(&s[at..], w) {
-        return Place::Nowhere;
-    }
-    fields_at(s, at + w.len(), least(n, 6), most, v)
+    fields_at(s, at + word.len(), most)
 }

@@ -8,8 +8,7 @@ use Rattle.text.specs.declared.programs.Program.{Program}
 use Rattle.text.specs.declared.report.Op.{Op}
 use Rattle.model.specs.Machine.{op, stop}
 use Rattle.model.specs.Bounds.{Within, Bounded}
-use Rattle.cells.specs.declared.stores.Cell.{Cell}
-use Rattle.cells.specs.declared.stores.Cell.TheVariants.{Never, Put}
+use Rattle.std.specs.Prelude.{Option, Some, None}
 use Rattle.machine.specs.declared.instructions.Act.{Act}
 use Rattle.machine.specs.declared.instructions.Act.TheVariants.{Goes, Asks, Replies}
 use Rattle.machine.specs.declared.processes.Next.{Next}
@@ -153,9 +152,9 @@ replies (Reply u) s v f e = let i : 0 ≡ s = cc in let j : u ≡ v = cc in (ome
 replies Cut s v f e = let i : 1 ≡ s = cc in let j : 0 ≡ v = cc in (omega arith, omega arith)
 
 -- what an operation finds is a value, or a 1 or 0
-pub finds-fit : (o : Op) (cell : Cell) → Word (value_of cell) → Word (finds o cell)
-finds-fit o Never w = word-cond (is_has o) 0 0 w w
-finds-fit o (Put v) w = word-cond (is_has o) 1 v (omega arith) w
+pub finds-fit : (o : Op) (cell : Option ℕ) → Word (value_of cell) → Word (finds o cell)
+finds-fit o None w = word-cond (is_has o) 0 0 w w
+finds-fit o (Some v) w = word-cond (is_has o) 1 v (omega arith) w
 
 -- whatever operation reads it
 abbrev pub FitContent : Content → Type 0
@@ -166,8 +165,8 @@ module _ (o : Op) (w : Word o.value) where
   written-fit (register v) h x = w
   written-fit (store cells) h x = by (eqb o.key x.key)
     where
-      by : (b : Bool) → Word (finds x (cond b (Put o.value) (cells x.key)))
-      by true = finds-fit x (Put o.value) w
+      by : (b : Bool) → Word (finds x (cond b (Some o.value) (cells x.key)))
+      by true = finds-fit x (Some o.value) w
       by false = h x
 
   left-fit : (c : Content) → FitContent c → FitContent (apply o c).1

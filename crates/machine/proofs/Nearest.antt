@@ -4,8 +4,7 @@ use Rattle.basics.specs.Firsts.{firsts}
 use Rattle.basics.proofs.Tests.{by_bool}
 use Rattle.text.specs.declared.report.Entry.{Entry}
 use Rattle.text.specs.declared.report.Op.{Op}
-use Rattle.cells.specs.declared.stores.Cell.{Cell}
-use Rattle.cells.specs.declared.stores.Cell.TheVariants.{Put}
+use Rattle.std.specs.Prelude.{Option, Some}
 use Rattle.machine.specs.Objects.{Content, register, store, is_register, at_start, value_of, finds, reads}
 use Rattle.machine.specs.Logs.{ops, after, after_all, nearest, writes}
 use Rattle.machine.proofs.LogLaws.{after-snoc}
@@ -15,16 +14,16 @@ module _ (cs : ℕ → Content) (o : Op) (object : ℕ) where
   own : {c : Content} → eqb o.object object ≡ true → cs object ≡ c → cs o.object ≡ c
   own t e = ap cs (eqb-true o.object object t) ∙ e
 
-  after-register : (key : ℕ) (c : Cell) → object < 8 → cs object ≡ register (value_of c)
-      → after cs o object ≡ register (value_of (cond (writes object key o) (Put o.value) c))
+  after-register : (key : ℕ) (c : Option ℕ) → object < 8 → cs object ≡ register (value_of c)
+      → after cs o object ≡ register (value_of (cond (writes object key o) (Some o.value) c))
   after-register key c h e = by_bool (eqb o.object object) (λ t. rw (lt-ltb object 8 h, own t e, t) (by (eqb o.kind 7))) (λ t. rw t e)
     where
-      by : (b : Bool) → cond b (register o.value) (register (value_of c)) ≡ register (value_of (cond b (Put o.value) c))
+      by : (b : Bool) → cond b (register o.value) (register (value_of c)) ≡ register (value_of (cond b (Some o.value) c))
       by true = refl
       by false = refl
 
-  after_store : (cells : ℕ → Cell) → 8 ≤ object → cs object ≡ store cells
-      → after cs o object ≡ store (λ key. cond (writes object key o) (Put o.value) (cells key))
+  after_store : (cells : ℕ → Option ℕ) → 8 ≤ object → cs object ≡ store cells
+      → after cs o object ≡ store (λ key. cond (writes object key o) (Some o.value) (cells key))
   after_store cells h e =
       by_bool (eqb o.object object)
       (λ t. rw (le-ltb object 8 h, own t e, t) (by_bool (eqb o.kind 9) (λ u. rw u) (λ u. rw u)))

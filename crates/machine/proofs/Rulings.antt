@@ -1,12 +1,11 @@
 -- What a ruling says of the line of a row.
-use Rattle.std.proofs.Common.{◌≡◌, ℕ, sym, ap, ◌∙◌}
+use Rattle.std.proofs.Common.{◌≡◌, ℕ, Result, Ok, Err, sym, ap, ◌∙◌}
 use mathlib.Core.Option.{Option, none, some}
 use Rattle.machine.specs.Rules.{broken_line}
-use Rattle.machine.specs.declared.rules.Ruling.TheVariants.{Kept, Broken}
-use Rattle.machine.specs.declared.rules.Ruling.{Ruling}
+use Rattle.text.specs.declared.reading.BadLine.{BadLine}
 
-pub broken : (r : Ruling) (o : Option ℕ) (line : ℕ) → broken_line r ≡ o → r ≡ Broken line → o ≡ some line
-broken r o line e d = sym e ∙ ap broken_line d
+pub broken : (r : Result Unit BadLine) (o : Option ℕ) (e : BadLine) → broken_line r ≡ o → r ≡ Err e → o ≡ some e.line
+broken r o e d f = sym d ∙ ap broken_line f
 
-pub kept : (r : Ruling) (o : Option ℕ) → broken_line r ≡ o → r ≡ Kept → o ≡ none
-kept r o e d = sym e ∙ ap broken_line d
+pub kept : (r : Result Unit BadLine) (o : Option ℕ) → broken_line r ≡ o → r ≡ Ok tt → o ≡ none
+kept r o d f = sym d ∙ ap broken_line f

@@ -1,5 +1,5 @@
 -- Laws of the scan of the program rules: what one line does to it.
-use Rattle.std.proofs.Common.{◌≡◌, ℕ, suc, ◌+◌, ◌-◌, ◌*◌, ◌<◌, ◌≤◌, true, false, cond, not, ◌&&◌, eqb, leb, List, [], ◌∷◌, ◌++◌, get_or, drop, sym, refl, ap, ◌∙◌, add-one, arith, drop_of_length-le, drop-cons, get_or-take, leb-true}
+use Rattle.std.proofs.Common.{◌≡◌, ℕ, suc, ◌+◌, ◌-◌, ◌*◌, ◌<◌, ◌≤◌, Bool, true, false, cond, not, ◌&&◌, eqb, leb, List, [], ◌∷◌, ◌++◌, length, get_or, take, drop, sym, refl, ap, ◌∙◌, add-one, arith, drop_of_length-le, drop-cons, length-take, get_or-take, leb-true}
 use mathlib.Core.Option.{Option, none, some}
 use Rattle.basics.specs.Firsts.{firsts}
 use Rattle.basics.proofs.Firsts.{firsts-length, firsts_at}
@@ -37,6 +37,22 @@ module _ (t : List Program) (k : ℕ) where
 
   abbrev pub instruction_line : ℕ → Line
   instruction_line j = instruction j p.n (get_or p.code j no_instr)
+
+-- the lines of what stands in front of a table, and in front of a program's code, are those of the whole
+pub program-in : (t : List Program) (m k : ℕ) (b : Bool) → k < length (take m t) →
+    keeps_rules (program k (get_or (take m t) k no_program).number (get_or (take m t) k no_program).n) ≡ b → keeps_rules (program_line t k) ≡ b
+program-in t m k b h e = let l : k < m = omega (arith, length-take m t) in rw (get_or-take m t k no_program l) at e
+
+pub instruction-in : (t : List Program) (m k j : ℕ) (b : Bool) → k < length (take m t) →
+    let p = get_or (take m t) k no_program in
+    j < length (take p.n p.code) → keeps_rules (instruction j p.n (get_or (take p.n p.code) j no_instr)) ≡ b →
+    (keeps_rules (instruction_line t k j) ≡ b) × (j < (get_or t k no_program).n)
+instruction-in t m k j b h g e =
+    let l : k < m = omega (arith, length-take m t) in
+    let same = get_or-take m t k no_program l in
+    let p = get_or (take m t) k no_program in
+    let i : j < p.n = omega (arith, length-take p.n p.code) in
+    (rw same at (rw (get_or-take p.n p.code j no_instr i) at e), rw same at i)
 
 -- a program whose line keeps the rules has at most 64 instructions
 pub room : (k number n : ℕ) → keeps_rules (program k number n) ≡ true → n ≤ 64

@@ -137,14 +137,14 @@ module _ (n : ℕ) (l : List ℕ) (i : Instr) where
   abbrev Fit : Code → Type 0
   Fit code =
       let f = fields_of code in
-      (fits_as f.a n i.a ≡ true) × (fits_as f.b n i.b ≡ true) × (fits_as f.c n i.c ≡ true)
+      (fits_as f.0 n i.a ≡ true) × (fits_as f.1 n i.b ≡ true) × (fits_as f.2 n i.c ≡ true)
 
   fit : keeps_fields n i ≡ true → Fit (code_of i.code)
   fit e =
       let f = fields_of (code_of i.code) in
-      let a = fits_as f.a n i.a in
-      let b = fits_as f.b n i.b in
-      let c = fits_as f.c n i.c in
+      let a = fits_as f.0 n i.a in
+      let b = fits_as f.1 n i.b in
+      let c = fits_as f.2 n i.c in
       let all = and-true a (b && c) (and-true (is_code i.code) (a && (b && c)) e).1 in
       let rest = and-true b c all.1 in
       (all.0, rest.0, rest.1)

@@ -1,10 +1,8 @@
 -- A report's log: what its lines leave in the objects, and what each line's operation answers.
-use Rattle.std.specs.Prelude.{ℕ, zero, suc, Bool, cond, ◌&&◌, List, [], ◌∷◌, ◌==◌}
+use Rattle.std.specs.Prelude.{ℕ, zero, suc, Bool, cond, ◌&&◌, List, [], ◌∷◌, Option, Some, None, ◌==◌}
 use Rattle.basics.specs.Firsts.{firsts}
 use Rattle.text.specs.declared.report.Entry.{Entry}
 use Rattle.text.specs.declared.report.Op.{Op}
-use Rattle.cells.specs.declared.stores.Cell.{Cell}
-use Rattle.cells.specs.declared.stores.Cell.TheVariants.{Never, Put}
 use Rattle.machine.specs.Objects.{Content, apply, is_register, is_write, is_put}
 
 -- the operation of each line
@@ -33,6 +31,6 @@ abbrev pub writes : (object key : ℕ) → Op → Bool
 writes object key o = o.object == object && cond (is_register object) (is_write o) (is_put o && o.key == key)
 
 -- the nearest write above line n
-unfoldable pub nearest : (ℕ → Op) → (object key n : ℕ) → Cell
-nearest line object key zero = Never
-nearest line object key (suc n) = cond (writes object key (line n)) (Put (line n).value) (nearest line object key n)
+unfoldable pub nearest : (ℕ → Op) → (object key n : ℕ) → Option ℕ
+nearest line object key zero = None
+nearest line object key (suc n) = cond (writes object key (line n)) (Some (line n).value) (nearest line object key n)

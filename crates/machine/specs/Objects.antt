@@ -1,15 +1,13 @@
 -- The objects: what an operation answers and leaves, and what its log line shows. Only this file knows which kinds change an
 -- object, and which show their answer.
-use Rattle.std.specs.Prelude.{ℕ, Bool, cond, ◌||◌, ◌==◌, nat_lt}
+use Rattle.std.specs.Prelude.{ℕ, Bool, cond, ◌||◌, Option, Some, None, ◌==◌, nat_lt}
 use Rattle.text.specs.declared.report.Op.{Op}
-use Rattle.cells.specs.declared.stores.Cell.{Cell}
-use Rattle.cells.specs.declared.stores.Cell.TheVariants.{Never, Put}
 use Rattle.machine.specs.Limits.{first_store}
 
--- a register has a value, a store a cell for each key
+-- a register has a value, a store what it holds at each key
 pub data Content : Type 0 where
   register : ℕ → Content
-  store : (ℕ → Cell) → Content
+  store : (ℕ → Option ℕ) → Content
 
 -- the objects below the first store are registers
 abbrev pub is_register : ℕ → Bool
@@ -17,17 +15,17 @@ is_register object = nat_lt object first_store
 
 -- the objects at the start: 0 in each register, no key put in any store
 abbrev pub at_start : ℕ → Content
-at_start object = cond (is_register object) (register 0) (store (λ key. Never))
+at_start object = cond (is_register object) (register 0) (store (λ key. None))
 
 -- a key never put reads 0
-abbrev pub value_of : Cell → ℕ
-value_of Never = 0
-value_of (Put v) = v
+abbrev pub value_of : Option ℕ → ℕ
+value_of None = 0
+value_of (Some v) = v
 
 -- 1 for a key that was put, be it as 0; 0 for a key never put
-abbrev pub held_of : Cell → ℕ
-held_of Never = 0
-held_of (Put v) = 1
+abbrev pub held_of : Option ℕ → ℕ
+held_of None = 0
+held_of (Some v) = 1
 
 -- kind 7 writes a register, kind 9 puts into a store; nothing else changes an object
 abbrev pub is_write : Op → Bool
@@ -42,15 +40,15 @@ changes o (store cells) = is_put o
 
 abbrev pub written : Op → Content → Content
 written o (register v) = register o.value
-written o (store cells) = store (λ key. cond (o.key == key) (Put o.value) (cells key))
+written o (store cells) = store (λ key. cond (o.key == key) (Some o.value) (cells key))
 
 -- kind 10 asks a store whether it holds a key
 abbrev pub is_has : Op → Bool
 is_has o = o.kind == 10
 
 -- what an operation finds in its key's cell: kind 10 whether the key was put, every other kind the value
-abbrev pub finds : Op → Cell → ℕ
-finds o cell = cond (is_has o) (held_of cell) (value_of cell)
+abbrev pub finds : Op → Option ℕ → ℕ
+finds o held = cond (is_has o) (held_of held) (value_of held)
 
 -- what it reads: a register, whatever its key, or its key's cell in a store
 abbrev pub reads : Op → Content → ℕ

@@ -1,5 +1,5 @@
 -- The program rules, by the fields of each code, and the first line that breaks one.
-use Rattle.std.specs.Prelude.{ℕ, zero, suc, ◌+◌, Bool, true, not, ◌&&◌, ◌||◌, List, [], ◌∷◌, ◌++◌, ◌==◌, nat_le, nat_lt, slice_index_or}
+use Rattle.std.specs.Prelude.{ℕ, zero, suc, ◌+◌, Bool, true, not, ◌&&◌, ◌||◌, List, [], ◌∷◌, ◌++◌, ◌==◌, nat_le, nat_lt, slice_index_or, Result, Ok, Err}
 use Rattle.std.proofs.Math.Option.{Option, none, some}
 use Rattle.text.specs.Formats.{most_instructions, most_objects}
 use Rattle.text.specs.Codes.{Code, reply, constant, add, subtract, less, jump, read, write, get, put, has, other, code_of, is_code}
@@ -11,11 +11,10 @@ use Rattle.machine.specs.Limits.{first_store, most_locals}
 use Rattle.machine.specs.declared.rules.Field.{Field}
 use Rattle.machine.specs.declared.rules.Field.TheVariants.{Unused, Constant, Local, Register, Store, Target}
 use Rattle.machine.specs.declared.rules.Fields.{Fields}
-use Rattle.machine.specs.declared.rules.Ruling.{Ruling}
-use Rattle.machine.specs.declared.rules.Ruling.TheVariants.{Kept, Broken}
+use Rattle.text.specs.declared.reading.BadLine.{BadLine}
 
 abbrev pub fields : (a b c : Field) → Fields
-fields a b c = record { a = a; b = b; c = c }
+fields a b c = record { 0 = a; 1 = b; 2 = c }
 
 -- what each field of each code names
 abbrev pub fields_of : Code → Fields
@@ -42,7 +41,7 @@ fits_as Store n v = nat_le first_store v && nat_lt v most_objects
 fits_as Target n v = nat_lt v n
 
 abbrev pub fit_fields : Fields → ℕ → Instr → Bool
-fit_fields f n i = fits_as f.a n i.a && (fits_as f.b n i.b && fits_as f.c n i.c)
+fit_fields f n i = fits_as f.0 n i.a && (fits_as f.1 n i.b && fits_as f.2 n i.c)
 
 -- an instruction has a code, and its fields fit
 abbrev pub keeps_fields : ℕ → Instr → Bool
@@ -73,6 +72,6 @@ abbrev pub row2 : List Program → Option ℕ
 row2 table = first_bad (λ past line. not (keeps_rules line)) 1 [] (lines_from 0 table)
 
 -- the line that breaks a rule
-abbrev pub broken_line : Ruling → Option ℕ
-broken_line Kept = none
-broken_line (Broken n) = some n
+abbrev pub broken_line : Result Unit BadLine → Option ℕ
+broken_line (Ok _) = none
+broken_line (Err e) = some e.line

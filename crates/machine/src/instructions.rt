@@ -11,8 +11,8 @@ use text::{
 };
 
 // What an instruction comes to: the request goes on at a position, asks for the answer of an operation, or replies.
-// With an operation goes the local for its answer, 8 where it takes none.
-#[derive(Drop)]
+// With an operation goes the local for its answer, 8 where it takes none, as the definitions of a machine have it (`asks` and `resumed`).
+#[derive(Clone, Copy, Debug, PartialEq, Eq)]
 pub enum Act {
     Goes(u64),
     Asks(Op, u64),
@@ -59,6 +59,7 @@ fn op_of(object: u64, kind: u64, key: u64, value: u64) -> Op
 }
 
 // The operation that an instruction asks for.
+#[tactic(auto, unfolding(crate::specs::Instructions::effect_as))]
 fn asked(l: &[u64; LOCALS], i: Instr) -> Act
     requires { is_operation i.code ≡ true }
     ensures { (n : ℕ) → effect_of l.now i n ≡ effect l.now result }
@@ -75,7 +76,9 @@ fn asked(l: &[u64; LOCALS], i: Instr) -> Act
     }
 }
 
-// Carries out an instruction, where `next` is the position behind it.
+// Carries out an instruction, where `next` is the position behind it. Its code stays a number: any may stand there, and one that is no code
+// does nothing.
+#[tactic(auto, unfolding(crate::specs::Instructions::effect_as))]
 pub fn carry_out(l: &mut [u64; LOCALS], i: Instr, next: u64) -> Act
     ensures { effect_of l.old i next ≡ effect l.new result }
 {
@@ -84,11 +87,11 @@ pub fn carry_out(l: &mut [u64; LOCALS], i: Instr, next: u64) -> Act
         REPLY => Act::Replies(local_at(l, i.a)),
         CONSTANT => becomes(l, i, i.b, next),
         ADD => {
-            let v = std::num::wrapping_add_u64(local_at(l, i.b), local_at(l, i.c));
+            let v = local_at(l, i.b).wrapping_add(local_at(l, i.c));
             becomes(l, i, v, next)
         }
         SUBTRACT => {
-            let v = std::num::wrapping_sub_u64(local_at(l, i.b), local_at(l, i.c));
+            let v = local_at(l, i.b).wrapping_sub(local_at(l, i.c));
             becomes(l, i, v, next)
         }
         LESS => {

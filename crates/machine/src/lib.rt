@@ -9,6 +9,6 @@ mod rules;
 
 pub use instructions::{Act, carry_out};
 pub use limits::{LOCALS, REGISTERS};
-pub use objects::{Performed, answers, perform, shown};
+pub use objects::{Objects, shown};
 pub use processes::{LIMIT, Next, Stop, first_locals, resume};
-pub use rules::{Field, Fields, Ruling, check_rules};
+pub use rules::{Field, Fields, check_rules};

@@ -1,4 +1,5 @@
-// How many locals a request has, and how many of the objects are registers.
+// How many locals a request has, and how many of the objects are registers. A number of 64 bits becomes an index by `as`, behind a `%` or a
+// test: `try_from` would add an `Err` that never comes.
 
 pub const LOCALS: usize = 8;
 

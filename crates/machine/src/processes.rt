@@ -10,7 +10,7 @@ use text::Op;
 pub const LIMIT: usize = 256;
 
 // What a request comes to next: an operation with the local for its answer, its reply, or its cut.
-#[derive(Drop)]
+#[derive(Clone, Copy, Debug, PartialEq, Eq)]
 pub enum Next {
     Operation(Op, u64),
     Reply(u64),
@@ -18,7 +18,7 @@ pub enum Next {
 }
 
 // A request that has gone on: its position, the instructions carried out, and what it came to.
-#[derive(Drop)]
+#[derive(Clone, Copy, Debug, PartialEq, Eq)]
 pub struct Stop {
     pub at: u64,
     pub done: usize,

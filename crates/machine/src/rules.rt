@@ -6,11 +6,11 @@ ghost use Rattle.text.specs.Held.{program_at};
 ghost use Rattle.machine.specs.Rules.{fits_as, keeps_fields, program, instruction, keeps_rules, row2, broken_line};
 
 use crate::limits::{FIRST_STORE, LOCAL_NUMBERS};
-use basics::least;
-use text::{CODES, INSTRUCTIONS, Instr, OBJECTS, PROGRAMS, Programs, REPLY};
+use crate::rules::Field::{Constant, Local, Register, Store, Target, Unused};
+use text::{BadLine, CODES, INSTRUCTIONS, Instr, OBJECTS, PROGRAMS, Program, Programs, REPLY};
 
 // What a field of an instruction names.
-#[derive(Clone, Copy)]
+#[derive(Clone, Copy, Debug, PartialEq, Eq)]
 pub enum Field {
     Unused,
     Constant,
@@ -20,90 +20,38 @@ pub enum Field {
     Target,
 }
 
-#[derive(Clone, Copy)]
-pub struct Fields {
-    pub a: Field,
-    pub b: Field,
-    pub c: Field,
-}
-
-// The rules are kept, or broken first at a line.
-#[derive(Drop)]
-pub enum Ruling {
-    Kept,
-    Broken(usize),
-}
+// What fields a, b and c of an instruction name.
+#[derive(Clone, Copy, Debug, PartialEq, Eq)]
+pub struct Fields(pub Field, pub Field, pub Field);
 
 // The fields of each code.
 const FIELDS: [Fields; CODES] = [
-    Fields {
-        a: Field::Local,
-        b: Field::Unused,
-        c: Field::Unused,
-    },
-    Fields {
-        a: Field::Local,
-        b: Field::Constant,
-        c: Field::Unused,
-    },
-    Fields {
-        a: Field::Local,
-        b: Field::Local,
-        c: Field::Local,
-    },
-    Fields {
-        a: Field::Local,
-        b: Field::Local,
-        c: Field::Local,
-    },
-    Fields {
-        a: Field::Local,
-        b: Field::Local,
-        c: Field::Local,
-    },
-    Fields {
-        a: Field::Local,
-        b: Field::Target,
-        c: Field::Unused,
-    },
-    Fields {
-        a: Field::Local,
-        b: Field::Register,
-        c: Field::Unused,
-    },
-    Fields {
-        a: Field::Register,
-        b: Field::Local,
-        c: Field::Unused,
-    },
-    Fields {
-        a: Field::Local,
-        b: Field::Store,
-        c: Field::Local,
-    },
-    Fields {
-        a: Field::Store,
-        b: Field::Local,
-        c: Field::Local,
-    },
-    Fields {
-        a: Field::Local,
-        b: Field::Store,
-        c: Field::Local,
-    },
+    Fields(Local, Unused, Unused),
+    Fields(Local, Constant, Unused),
+    Fields(Local, Local, Local),
+    Fields(Local, Local, Local),
+    Fields(Local, Local, Local),
+    Fields(Local, Target, Unused),
+    Fields(Local, Register, Unused),
+    Fields(Register, Local, Unused),
+    Fields(Local, Store, Local),
+    Fields(Store, Local, Local),
+    Fields(Local, Store, Local),
 ];
 
-// A field that names f may be v, in a program of n instructions.
-fn fits(f: Field, v: u64, n: u64) -> bool
-    ensures { result ≡ fits_as f n v }
-{
-    match f {
-        Field::Unused => v == 0,
-        Field::Constant => true,
-        Field::Local => v < LOCAL_NUMBERS,
-        Field::Register => v < FIRST_STORE,
-        Field::Store => { if v < FIRST_STORE { false } else { v < OBJECTS } }
-        Field::Target => v < n,
+impl Field {
+    // What it names may be v, in a program of n instructions.
+    fn fits(self, v: u64, n: u64) -> bool
+        ensures { result ≡ fits_as self n v }
+    {
+        match self {
+            Unused => v == 0,
+            Constant => true,
+            Local => v < LOCAL_NUMBERS,
+            Register => v < FIRST_STORE,
+            Store => FIRST_STORE <= v && v < OBJECTS,
+            Target => v < n,
+        }
     }
 }
 
@@ -111,32 +59,18 @@ fn fits(f: Field, v: u64, n: u64) -> bool
 fn keeps(i: Instr, n: u64) -> bool
     ensures { result ≡ keeps_fields n i }
 {
-    let code = i.code;
-    if CODES as u64 <= code {
+    if CODES as u64 <= i.code {
         return false;
     }
-    let f = FIELDS[code as usize];
-    let a = f.a;
-    let b = f.b;
-    let c = f.c;
-    if !fits(a, i.a, n) {
-        return false;
-    }
-    if !fits(b, i.b, n) {
-        return false;
-    }
-    fits(c, i.c, n)
+    let Fields(a, b, c) = FIELDS[i.code as usize];
+    a.fits(i.a, n) && b.fits(i.b, n) && c.fits(i.c, n)
 }
 
 // Program k has its number and at least one instruction (and no more than there is room for).
-fn head_keeps(number: u64, n: usize, k: usize) -> bool
-    ensures { result ≡ keeps_rules (program k number n) }
+fn head_keeps(p: &Program, k: usize) -> bool
+    ensures { result ≡ keeps_rules (program k p.now.number p.now.n) }
 {
-    if number == k as u64 {
-        if n == 0 { false } else { n <= INSTRUCTIONS }
-    } else {
-        false
-    }
+    p.number == k as u64 && p.n != 0 && p.n <= INSTRUCTIONS
 }
 
 // Instruction j of n keeps the rules; the last has code 0.
@@ -144,41 +78,28 @@ fn body_keeps(i: Instr, j: usize, n: usize) -> bool
     requires { j < n }
     ensures { result ≡ keeps_rules (instruction j n i) }
 {
-    if keeps(i, n as u64) {
-        if j + 1 < n { true } else { i.code == REPLY }
-    } else {
-        false
-    }
+    keeps(i, n as u64) && (j + 1 < n || i.code == REPLY)
 }
 
-// Every line of the text is a `program` or a `do`, so the programs' counts give the line.
-pub fn check_rules(ps: Programs) -> Ruling
-    ensures { broken_line result ≡ row2 (firsts (program_at ps.table) (min ps.n most_programs)) }
+// Every line of the text is a `program` or a `do`, so the programs' counts give the line. Nested scans left by a label, as the scope has it.
+pub fn check_rules(ps: &Programs) -> Result<(), BadLine>
+    ensures { broken_line result ≡ row2 (firsts (program_at ps.now.table) (min ps.now.n most_programs)) }
 {
-    let count = least(ps.n, PROGRAMS);
+    let mut ruling = Ok(());
     let mut line: usize = 1;
-    let mut k: usize = 0;
-    'table: while k < count {
-        let p = ps.table[k];
-        let n = p.n;
-        if !head_keeps(p.number, n, k) {
+    'table: for (k, p) in ps.table[..ps.n.min(PROGRAMS)].iter().enumerate() {
+        if !head_keeps(p, k) {
+            ruling = Err(BadLine { line });
             break 'table;
         }
         line += 1;
-        let mut j: usize = 0;
-        while j < n {
-            let i = p.code[j];
-            if !body_keeps(i, j, n) {
+        for (j, i) in p.code[..p.n].iter().enumerate() {
+            if !body_keeps(*i, j, p.n) {
+                ruling = Err(BadLine { line });
                 break 'table;
             }
             line += 1;
-            j += 1;
         }
-        k += 1;
     }
-    if k < count {
-        Ruling::Broken(line)
-    } else {
-        Ruling::Kept
-    }
+    ruling
 }

@@ -7,6 +7,7 @@ use Prim.Native.Nat.{ℕ, zero, suc, ◌+◌, ◌≤◌, ◌<◌}
 use lib.Dec.{eqb}
 use lib.ListN.{get_or, length}
 use native.Mathlib.Omega.{arith}
+use Rattle.std.proofs.lemmas.List.{nil_from_length}
 use Rattle.basics.specs.Lists.{All}
 use Rattle.basics.proofs.Lists.{count-all}
 use Rattle.basics.proofs.Tests.{by_bool, by_eq}
@@ -135,10 +136,6 @@ module _ {A : Type 0} (lane rid num : A → ℕ) (items : List A) (d : A) (lanes
       (length items) (λ r. 0) (λ r. 0) (up_from 0 (length items)) (all-below 0 (length items) (length items) (omega arith)) (λ x p. refl))
 
 -- ── how many are left tells whether there is an order ──
-empty : {A : Type 0} (xs : List A) → length xs ≡ 0 → xs ≡ []
-empty [] e = refl
-empty (x ∷ xs) e = absurd (omega arith)
-
 module _ (lane request number : List ℕ) (n : ℕ) where
   abbrev pub OrderOf : List ℕ → Type 0
   OrderOf = IsOrder (slot lane 17) (slot request 64) (value number) (λ r. 0) (up_from 0 n)
@@ -148,7 +145,7 @@ module _ (lane request number : List ℕ) (n : ℕ) where
   none_left = (
     λ e. (
       (merge_of lane request number n).0,
-      merge-order (slot lane 17) (slot request 64) (value number) n (λ r. 0) (up_from 0 n) (empty (merge_of lane request number n).1 e),
+      merge-order (slot lane 17) (slot request 64) (value number) n (λ r. 0) (up_from 0 n) (nil_from_length (merge_of lane request number n).1 e),
     ),
     λ o. ap length (order-merge (slot lane 17) (slot request 64) (value number) n (λ r. 0) (up_from 0 n) o.0
         (omega (arith, up-length 0 n)) o.1),

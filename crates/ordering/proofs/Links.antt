@@ -1,5 +1,5 @@
 -- The pass that links the items of each lane, from the back: from the heads it leads through each lane.
-use mathlib.Core.Path.{◌≡◌, refl, sym, ap, subst, ◌∙◌}
+use mathlib.Core.Path.{◌≡◌, refl, sym, subst, ◌∙◌}
 use mathlib.Core.List.{List, [], ◌∷◌}
 use Prim.Native.Nat.{ℕ, zero, suc, ◌-◌, ◌%◌, ◌≤◌, ◌<◌, min}
 use lib.ListN.{get_or, set, length, length-set, replicate, length-replicate, get_or-replicate}
@@ -98,36 +98,8 @@ linked_of lane n head after a b e d =
     let m : min n (min (length lane) 1152) ≡ n = omega arith in
     rw (e, d, m) (linked-from lane n n (replicate 17 1152) (replicate 1152 0) (omega arith) b (linked-start lane n b))
 
--- ── the loop: its invariant, and the law of its body ──
-module _ (lane : List ℕ) (n : ℕ) (head₀ after₀ : List ℕ) where
-  pub record Linking (head after : List ℕ) (i : ℕ) : Type 0 where
-    pub heads : length head ≡ 17
-    pub afters : length after ≡ 1152
-    pub items : i ≤ length lane
-    pub few : i ≤ 1152
-    pub rest : link_from lane i head after ≡ link_of lane n head₀ after₀
-
-  pub linking-start : (i : ℕ) → length head₀ ≡ 17 → length after₀ ≡ 1152 → i ≡ min n (min (length lane) 1152) → Linking head₀ after₀ i
-  unfolding link_of
-  linking-start i h a e = record { heads = h; afters = a; items = omega arith; few = omega arith; rest = rw e }
-
-  -- i is counted down, w is the byte read
-  pub linking-back : (i w : ℕ) (head after : List ℕ) → 0 < i → w ≡ get_or lane (i - 1) 0 → Linking head after i →
-      Linking (set head (w % 17) (i - 1)) (set after (i - 1) (get_or head (w % 17) 0)) (i - 1)
-  linking-back zero w head after p e h = absurd (omega arith)
-  linking-back (suc i) w head after p e h =
-      let j : suc i - 1 ≡ i = omega arith in
-      rw (j, e, j) (record {
-        heads = length-set head (slot lane 17 i) i ∙ h.heads;
-        afters = length-set after i (get_or head (slot lane 17 i) 0) ∙ h.afters;
-        items = omega (arith, h.items);
-        few = omega (arith, h.few);
-        rest = h.rest;
-      })
-
-  pub linking-end : (head after : List ℕ) (i : ℕ) → i ≤ 0 → Linking head after i →
-      (head ≡ (link_of lane n head₀ after₀).0) × (after ≡ (link_of lane n head₀ after₀).1)
-  linking-end head after i e h =
-      let z : i ≡ 0 = omega arith in
-      let r : (head, after) ≡ link_of lane n head₀ after₀ = rw z at h.rest in
-      (ap (λ m. m.0) r, ap (λ m. m.1) r)
+-- ── the law of the loop's body: i is counted down, w is the byte read ──
+pub link_back : (lane : List ℕ) (i w : ℕ) (head after : List ℕ) → 0 < i → w ≡ get_or lane (i - 1) 0 →
+    link_from lane (i - 1) (set head (w % 17) (i - 1)) (set after (i - 1) (get_or head (w % 17) 0)) ≡ link_from lane i head after
+link_back lane zero w head after p e = absurd (omega arith)
+link_back lane (suc i) w head after p e = let j : suc i - 1 ≡ i = omega arith in rw (j, e, j)

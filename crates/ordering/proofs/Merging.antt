@@ -7,6 +7,7 @@ use Prim.Native.Nat.{ℕ, zero, suc, ◌+◌, ◌-◌, ◌%◌, ◌≤◌, ◌<�
 use lib.ListN.{get_or, length, set, drop, length-set, length-append, replicate}
 use lib.Seq.{get_or-set_same, get_or-set_other, drop-cons, set-append_seam}
 use native.Mathlib.Omega.{arith}
+use Rattle.std.specs.Prelude.{Option, Some, None}
 use Rattle.basics.proofs.Lists.{all-imp}
 use Rattle.basics.proofs.Tests.{by_eq, eqb_yes, eqb_no, yes_eqb}
 use Rattle.ordering.specs.declared.Front.{Front}
@@ -19,7 +20,7 @@ use Rattle.ordering.proofs.Numbers.{bump-same, bump-other}
 use Rattle.ordering.proofs.Orders.{merge-stuck, merge-took, picked, Picked}
 use Rattle.ordering.proofs.Pick.{Ascending, Ready, head-lane, still-ascending, pick-least, pick-none}
 use Rattle.ordering.proofs.Links.{Through, Linked, all_up}
-use Rattle.ordering.proofs.Search.{Leads, least-of}
+use Rattle.ordering.proofs.Search.{Leads, Least, least-of}
 
 -- ── small laws ──
 up-ascending : (i m : ℕ) → Ascending (up_from i m)
@@ -128,30 +129,29 @@ module _ (lane request number : List ℕ) (n : ℕ) (o : List ℕ) where
       }
 
   -- ── the end ──
-  -- what a merge leaves in the array and gives back
-  abbrev pub Written : ℕ → List ℕ → ℕ → ℕ → Type 0
-  Written m out k left =
-      (out ≡ over_front (merge_of lane request number m).0 o)
-      × (◌≡◌ {A = Merged} (record { taken = k; left = left }) (counts (merge_of lane request number m)))
+  -- what a merge that stops leaves in the array and gives back
+  abbrev pub Written : ℕ → List ℕ → ℕ → Type 0
+  Written m out k = record {
+    order : out ≡ over_front (merge_of lane request number m).0 o;
+    counted : ◌≡◌ {A = Merged} (record { taken = k; left = n - k }) (counts (merge_of lane request number m));
+  }
 
-  written : (out done : List ℕ) (k left : ℕ) → out ≡ done ++ drop k o → length done ≡ k →
-      done ≡ (merge_of lane request number n).0 → left ≡ length (merge_of lane request number n).1 → Written n out k left
-  written out done k left w s a b =
+  written : (out done : List ℕ) (k : ℕ) → out ≡ done ++ drop k o → length done ≡ k →
+      done ≡ (merge_of lane request number n).0 → n - k ≡ length (merge_of lane request number n).1 → Written n out k
+  written out done k w s a b =
       let t : k ≡ length (merge_of lane request number n).0 = sym s ∙ ap length a in
-      (w ∙ ap (λ j. done ++ drop j o) (sym s) ∙ ap (λ t. over_front t o) a, λ i. record { taken = t i; left = b i })
+      record {
+        order = w ∙ ap (λ j. done ++ drop j o) (sym s) ∙ ap (λ t. over_front t o) a;
+        counted = λ i. record { taken = t i; left = b i };
+      }
 
   merging-done : (after out head stage : List ℕ) (k m : ℕ) → n ≡ m → (g : Merging after out head stage k) →
-      merge_from (n - k) stage g.rest ≡ ([], g.rest) → Written m out k (n - k)
-  merging-done after out head stage k m c g e = subst (λ m. Written m out k (n - k)) c (written out g.done k (n - k)
+      merge_from (n - k) stage g.rest ≡ ([], g.rest) → Written m out k
+  merging-done after out head stage k m c g e = subst (λ m. Written m out k) c (written out g.done k
       g.written
       g.so_far
       (sym (append-nil g.done) ∙ ap (λ t. g.done ++ t.0) (sym e) ∙ g.order)
       (omega (arith, g.whole, ap length (sym g.left ∙ ap (λ t. t.1) e))))
-
-  pub merging-end : (after out head stage : List ℕ) (k m : ℕ) → n ≡ m → n ≤ k → Merging after out head stage k → Written m out k 0
-  merging-end after out head stage k m c b g =
-      let e : n - k ≡ 0 = omega arith in
-      subst (Written m out k) e (merging-done after out head stage k m c g (rw e))
 
   -- ── the heads are what `pick` could take ──
   headed : (after out head stage : List ℕ) (k : ℕ) (g : Merging after out head stage k) (y : ℕ) →
@@ -166,21 +166,25 @@ module _ (lane request number : List ℕ) (n : ℕ) (o : List ℕ) where
   is-next stage x y e t = eqb_yes (subst (λ y. number_at y ≡ next_in stage (request_at y)) (sym e) t)
 
   -- ── what `least` finds ──
-  abbrev Found : List ℕ → List ℕ → Front → Type 0
-  Found stage head f = f ≡ least_of request number stage head n
+  abbrev Found : List ℕ → List ℕ → Option Front → Type 0
+  Found stage head found = found ≡ least_of request number stage head n
 
-  pub merging-leads : (after out head stage : List ℕ) (k : ℕ) (f : Front) → Merging after out head stage k → Found stage head f →
-      f.lane < 17 → Leads (is_next request number stage) head n f.lane f.item
-  merging-leads after out head stage k f g e = (least-of request number stage head n f g.requests g.numbers e).some
+  merging-least : (after out head stage : List ℕ) (k : ℕ) (found : Option Front) → Merging after out head stage k →
+      Found stage head found → Least (is_next request number stage) head n found
+  merging-least after out head stage k found g e = least-of request number stage head n found g.requests g.numbers e
 
-  pub merging-stop : (after out head stage : List ℕ) (k m : ℕ) (f : Front) → n ≡ m → Merging after out head stage k →
-      Found stage head f → 17 ≤ f.lane → Written m out k (n - k)
-  merging-stop after out head stage k m f c g e b =
-      let h = least-of request number stage head n f g.requests g.numbers e in
+  pub merging-leads : (after out head stage : List ℕ) (k : ℕ) (f : Front) → Merging after out head stage k → Found stage head (Some f) →
+      Leads (is_next request number stage) head n f
+  merging-leads after out head stage k f = merging-least after out head stage k (Some f)
+
+  pub merging_stop : (after out head stage : List ℕ) (k m : ℕ) → n ≡ m → Merging after out head stage k →
+      Found stage head None → Written m out k
+  merging_stop after out head stage k m c g e =
+      let none : Least (is_next request number stage) head n None = merging-least after out head stage k None g e in
       merging-done after out head stage k m c g (merge-stuck lane_at request_at number_at (n - k) (next_in stage) g.rest
       (pick-none lane_at request_at number_at (next_in stage) g.rest (λ y r.
       let d = headed after out head stage k g y r in
-      omega (arith, d.0, d.1, h.none b (lane_at y) (omega arith) (is-next stage (get_or head (lane_at y) 0) y d.0 r.2)))))
+      omega (arith, d.0, d.1, none (lane_at y) (omega arith) (is-next stage (get_or head (lane_at y) 0) y d.0 r.2)))))
 
   -- ── a step ──
   -- the lanes behind it, given that `pick` takes x, the head of lane l
@@ -228,16 +232,16 @@ module _ (lane request number : List ℕ) (n : ℕ) (o : List ℕ) where
       }
 
   -- as the code has it: w is the byte read for the item's request
-  pub merging-taken : (after out head stage : List ℕ) (k w : ℕ) (f : Front) → k < n → w ≡ get_or request f.item 0 →
-      Merging after out head stage k → Found stage head f → f.lane < 17 →
+  pub merging_taken : (after out head stage : List ℕ) (k w : ℕ) (f : Front) → k < n → w ≡ get_or request f.item 0 →
+      Merging after out head stage k → Found stage head (Some f) →
       Merging after (set out k f.item) (set head f.lane (get_or after f.item 0)) (set stage (w % 64) (get_or stage (w % 64) 0 + 1))
       (k + 1)
-  merging-taken after out head stage k w f s d g e b =
+  merging_taken after out head stage k w f s d g e =
       let x = f.item in
       let l = f.lane in
-      let h = merging-leads after out head stage k f g e b in
+      let h = merging-leads after out head stage k f g e in
       let q = starts after n x (on_lane lane_at l g.rest) h.item
-      (subst (λ h. Through after n h (on_lane lane_at l g.rest)) (sym h.first) (g.lanes l b)) in
+      (subst (λ h. Through after n h (on_lane lane_at l g.rest)) (sym h.first) (g.lanes l h.lane)) in
       let lx : lane_at x ≡ l = head-lane lane_at l g.rest x q.0 q.1 in
       let r : Ready lane_at request_at number_at (next_in stage) g.rest x =
       (q.0, subst (λ l. on_lane lane_at l g.rest ≡ x ∷ q.0) (sym lx) q.1, yes_eqb h.ready) in
@@ -246,4 +250,4 @@ module _ (lane request number : List ℕ) (n : ℕ) (o : List ℕ) where
       omega (arith, d.0, h.least (lane_at y) (omega arith) (is-next stage (get_or head (lane_at y) 0) y d.0 r.2))) in
       subst (λ r. Merging after (set out k x) (set head l (get_or after x 0)) (set stage r (get_or stage r 0 + 1)) (k + 1))
       (ap (λ w. w % 64) (sym d))
-      (stepped after out head stage k l x p.0 s b lx g p.1)
+      (stepped after out head stage k l x p.0 s h.lane lx g p.1)

@@ -5,24 +5,21 @@
 
 ghost use Rattle.std.specs.Prelude.{◌≡◌, length};
 ghost use Rattle.lines.specs.Put.{front};
-ghost use Rattle.host.specs.Printed.{run_printed, most_printed};
+ghost use Rattle.host.specs.Printed.{run_printed};
 
-use files::{Got, front, read_file, write_front};
+use files::{Unread, front, read_file, write_front};
 use host::{PRINTED, TEXT_ROOM, record_text};
-use lines::written;
 
 // As much as is ever printed (`most_printed`).
 const ROOM: usize = PRINTED;
 
 // What is printed, to the front of out, and how long it is. It has room whatever the texts are.
 fn fill(programs: &[u8], schedule: &[u8], out: &mut [u8; ROOM]) -> usize
-    requires { length out.old ≡ most_printed }
     ensures count { result ≡ length (run_printed programs.now schedule.now) }
     ensures bytes { out.new ≡ front
         (run_printed programs.now schedule.now) out.old }
-    ensures room { length out.new ≡ length out.old }
 {
-    written(record_text(programs, schedule, out))
+    record_text(programs, schedule, out).unwrap_or(0)
 }
 
 fn print(rt: &HostRuntime, programs: &[u8], schedule: &[u8]) {
@@ -31,14 +28,17 @@ fn print(rt: &HostRuntime, programs: &[u8], schedule: &[u8]) {
     write_front(rt, &out, n);
 }
 
-fn main(rt: HostRuntime) {
+// Reads both texts and prints the run of them. What could not be read is said where it is read.
+fn run(rt: &HostRuntime) -> Result<(), Unread> {
     let mut programs = [0u8; TEXT_ROOM];
     let mut schedule = [0u8; TEXT_ROOM];
-    let Got::Bytes(p) = read_file(&rt, b"programs.txt", &mut programs) else {
-        return;
-    };
-    let Got::Bytes(s) = read_file(&rt, b"schedule.txt", &mut schedule) else {
-        return;
-    };
-    print(&rt, front(&programs, p), front(&schedule, s));
+    let p = read_file(rt, b"programs.txt", &mut programs)?;
+    let s = read_file(rt, b"schedule.txt", &mut schedule)?;
+    print(rt, front(&programs, p), front(&schedule, s));
+    Ok(())
+}
+
+// The status is 0 where a text could not be read too.
+fn main(rt: HostRuntime) {
+    let _ = run(&rt);
 }

@@ -1,257 +1,255 @@
 -- The replay of all requests, one after the other: the first fault of rows 10 to 12.
-use mathlib.Core.Bool.{Bool}
-use mathlib.Core.List.{List, ◌∷◌, ◌++◌}
-use mathlib.Core.Path.{◌≡◌, refl, sym, ap, subst, ◌∙◌}
-use Prim.Native.Nat.{ℕ, suc, ◌+◌, ◌-◌, ◌*◌, ◌%◌, ◌≤◌, ◌<◌}
-use lib.Dec.{eqb}
-use lib.ListN.{get_or, set, length, length-set}
-use lib.Seq.{get_or-set_same, get_or-set_other}
-use native.Mathlib.Nat.{mod-eq_of_lt}
-use native.Mathlib.Omega.{arith}
-use Rattle.basics.specs.Firsts.{firsts}
-use Rattle.basics.specs.Scans.{FirstFrom}
-use Rattle.basics.proofs.Firsts.{firsts_same, firsts-split}
-use Rattle.basics.proofs.Scans.{first-before}
-use Rattle.basics.proofs.Tests.{by_eq, eqb-self}
-use Rattle.text.specs.Held.{event_at, of_at}
-use Rattle.text.specs.Programs.{no_program}
+use Rattle.std.proofs.Common.{◌≡◌, ◌≢◌, ℕ, zero, suc, ◌+◌, ◌≤◌, ◌<◌, Bool, true, false, cond, not, eqb, ltb, lt-ltb, replicate, List, [], ◌∷◌, length, set, drop, Option, Some, None, Result, Ok, Err, position, unwrap_or, ◌==◌, refl, sym, ap, subst, ◌∙◌, arith, get_or-set_same, get_or-set_other}
+use Rattle.std.proofs.Math.Option.{none, some}
+use Rattle.std.proofs.Math.Option as Math
+use Rattle.std.proofs.lemmas.List.{length-set, drop_more, drop_all}
+use Rattle.std.proofs.lemmas.List.Sums.{fails_before_first}
+use Rattle.std.specs.List.{position_or_len}
+use borrow.Author.Tests.{ltb-true, ltb-false}
+use Rattle.std.specs.Option.{is_some, option_map}
+use Rattle.basics.proofs.Tests.{clash, by_bool, by_eq, eqb-self}
+use Rattle.text.specs.Held.{no_of, of_at}
 use Rattle.text.specs.declared.programs.Program.{Program}
+use Rattle.text.specs.declared.report.Entry.{Entry}
 use Rattle.text.specs.declared.report.Of.{Of}
-use Rattle.model.specs.Audit.{request_checks, replay_checks}
+use Rattle.text.specs.declared.trace.Event.{Event}
+use Rattle.model.specs.Audit.{same_path, replay_checks}
 use Rattle.model.specs.Batch.{Batch, first_of}
 use Rattle.model.specs.Checks.{Check, first_fault, verdict}
-use Rattle.model.specs.Replay.{Reply, silent, response_of, Outcome, ended, replay, replay_from, outcome, claim}
-use Rattle.machine.specs.Instance.{code_at, machine_of}
+use Rattle.model.specs.Replay.{Reply, response_of, Outcome, ended, replay, replay_from, outcome, claim}
+use Rattle.machine.specs.Instance.{Process, machine_of}
 use Rattle.machine.specs.Objects.{Content}
-use Rattle.replay.specs.Arrays.{Arrays, batch_held}
+use Rattle.replay.specs.Index.{Claimed}
 use Rattle.replay.specs.Judges.{Ready}
-use Rattle.replay.specs.Promises.{opens, AnsweredFrom, replied_as, left_open, path_in, done_in, outcome_in, Replays, row_of, path_at, arrival_of, JudgesRequests}
-use Rattle.replay.specs.declared.replays.Arrival.{Arrival}
-use Rattle.replay.specs.declared.replays.End.{End}
-use Rattle.replay.specs.declared.replays.End.TheVariants.{Differs, Ended}
-use Rattle.replay.specs.declared.replays.Replied.{Replied}
-use Rattle.replay.proofs.Rows.{checks_of, row_first, row-none, row-some}
-use Rattle.basics.proofs.Searches.{search-hit}
-use Rattle.replay.proofs.Looking.{request-is, program-below, counted_is}
+use Rattle.replay.specs.Promises.{replied_as, left_open, AnsweredFrom, outcome_by, replayed, way, path_at, no_path, Short, ReplaysRequest, row_by, JudgesRequests}
+use Rattle.replay.specs.declared.batch.Fault.{Fault}
+use Rattle.replay.specs.declared.lookups.Response.{Response as Reply_}
+use Rattle.replay.specs.declared.paths.Path.{Path}
+use Rattle.replay.specs.declared.replays.Ended.{Ended}
+use Rattle.replay.proofs.Looking.{open-is, ready-table, counted_is}
+use Rattle.replay.proofs.Places.{position-here, position-next}
+use Rattle.replay.proofs.Rows.{row_of, checks_of, row-differs, row-ends, row-none, row-some}
 
-by_end : {P : Type 0} (e : End) → (e ≡ Differs → P) → ((own : Replied) (d : ℕ) → e ≡ Ended own d → P) → P
-by_end Differs f g = f refl
-by_end (Ended own d) f g = g own d refl
+abbrev pub batch_of : List Event → List Of → List Entry → Batch
+batch_of trace ofs log = record { trace = trace; ofs = ofs; log = log }
 
-module _ (table : List Program) (here : Arrays) (answers : List ℕ) where
-  open here use {events, t, ofs, m, logs, n}
+by_option : {A : Type 0} {P : Type 0} (o : Option A) → (o ≡ None → P) → ((x : A) → o ≡ Some x → P) → P
+by_option None f g = f refl
+by_option (Some x) f g = g x refl
 
-  abbrev all : Batch
-  all = batch_held here
+-- ── the first `of` line of a group ──
+module _ (g : ℕ) where
+  abbrev is_of : Of → Bool
+  is_of x = x.group == g
 
-  -- contents at the start that give the answers
-  abbrev From : (ℕ → Content) → Type 0
-  From opening = AnsweredFrom opening logs n answers
+  rid_at : List Of → Option ℕ → ℕ
+  rid_at ofs None = 0
+  rid_at ofs (Some i) = (of_at ofs i).rid
 
-  abbrev outcomes : (ℕ → Content) → ℕ → Outcome
-  outcomes opening k = outcome (machine_of table) opening all (of_at ofs k).rid
+  further : (x : Of) (xs : List Of) (i : Option ℕ) → rid_at xs i ≡ rid_at (x ∷ xs) (option_map suc i)
+  unfolding rid_at
+  further x xs None = refl
+  further x xs (Some i) = refl
+
+  first-at : (ofs : List Of) → first_of ofs g ≡ rid_at ofs (position is_of ofs)
+  unfolding rid_at
+  first-at [] = refl
+  first-at (x ∷ xs) = by_bool (eqb x.group g)
+      (λ e. rw (position-here is_of x xs e, e))
+      (λ e.
+      rw e (first-at xs) ∙ further x xs (position is_of xs)
+      ∙ ap (rid_at (x ∷ xs)) (sym (position-next is_of x xs e)))
+
+-- line k has one, which is not behind it
+module _ (ofs : List Of) (k f : ℕ) (low : k < length ofs)
+    (e : f ≡ unwrap_or (position (λ x. x.group == (of_at ofs k).group) ofs) k) where
+  abbrev g : ℕ
+  g = (of_at ofs k).group
+
+  abbrev place : ℕ
+  place = position_or_len (is_of g) ofs
+
+  place-low : place ≤ k
+  place-low = by_bool (ltb k place)
+      (λ t. clash
+      (let h = fails_before_first (is_of g) ofs k no_of (ltb-true k place t) in
+      let o = eqb-self g in
+      cc))
+      (λ t. ltb-false k place t)
+
+  place-is : position (is_of g) ofs ≡ Some place
+  place-is = rw (lt-ltb place (length ofs) (omega (arith, place-low)))
+
+  first-place : f ≡ place
+  first-place = e ∙ ap (λ i. unwrap_or i k) place-is
+
+  first-low : f ≤ k
+  first-low = omega (arith, first-place, place-low)
+
+  first-rid : first_of ofs g ≡ (of_at ofs f).rid
+  unfolding rid_at
+  first-rid = first-at g ofs ∙ ap (rid_at g ofs) place-is ∙ ap (λ i. (of_at ofs i).rid) (sym first-place)
+
+-- the paths at the start
+pub short-start : (p : Path) (n : ℕ) → p.done ≤ 256 → Short (replicate n p)
+short-start p zero h k = omega arith
+short-start p (suc n) h zero = h
+short-start p (suc n) h (suc k) = short-start p n h k
+
+module _ (table : List Program) (b : Batch) (c : Claimed) where
+  open b use {trace, ofs}
+
+  -- what is known of the batch and of the answers
+  pub record Known : Type 0 where
+    pub known : ℕ → Bool
+    pub ready : Ready known b
+    pub lines : c.log ≡ b.log
+    pub opening : ℕ → Content
+    pub answered : AnsweredFrom opening c
+
+  abbrev outcomes : Known → ℕ → Outcome
+  outcomes n k = outcome (machine_of table) n.opening b (of_at ofs k).rid
 
   -- the checks of the requests from slot k on
-  abbrev checks_from : (ℕ → Content) → ℕ → List Check
-  checks_from opening k =
-      replay_checks (machine_of table) opening all (suc k) (firsts (λ i. of_at ofs (k + i)) (m - k))
+  abbrev checks_from : Known → ℕ → List Check
+  checks_from n k = replay_checks (machine_of table) n.opening b (suc k) (drop k ofs)
 
-  -- the requests below slot k broke no row, and their paths are kept
-  pub record Judging (progs lengths paths : List ℕ) (k : ℕ) : Type 0 where
-    pub within : k ≤ m
-    pub few : m ≤ 64
-    pub progs_room : length progs ≡ 64
-    pub lengths_room : length lengths ≡ 64
-    pub paths_room : length paths ≡ 16384
-    pub short : (j : ℕ) → j < k → get_or lengths j 0 ≤ 256
-    pub kept : (known : ℕ → Bool) → Ready known all → (opening : ℕ → Content) → From opening → (j : ℕ) → j < k →
-        (reply : Reply) × (outcomes opening j ≡ ended reply (path_at progs lengths paths j))
-    pub rest : (known : ℕ → Bool) → Ready known all → (opening : ℕ → Content) → From opening →
-        first_fault (replay_checks (machine_of table) opening all 1 (firsts (of_at ofs) m)) ≡ first_fault (checks_from opening k)
+  -- the requests below slot k broke no row, and their ways are kept
+  pub record Judging (paths : List Path) (k : ℕ) : Type 0 where
+    pub few : length ofs ≤ 64
+    pub room : length paths ≡ 64
+    pub short : Short paths
+    pub kept : (n : Known) (j : ℕ) → j < k → (reply : Reply) × (outcomes n j ≡ ended reply (way (path_at paths j)))
+    pub rest : (n : Known) → first_fault (replay_checks (machine_of table) n.opening b 1 ofs) ≡ first_fault (checks_from n k)
 
-  -- what was looked up and replayed for the request in slot k, and the row that it breaks
-  pub record Step (x : Of) (k : ℕ) (progs lengths old paths : List ℕ) (start : Arrival) (d row : ℕ) : Type 0 where
-    pub s : ℕ
-    pub f : ℕ
-    pub reply : Replied
-    pub program : Program
-    pub end : End
-    pub requests : FirstFrom (λ i. opens x.rid (event_at events i)) 0 t s
-    pub starts : start ≡ arrival_of (event_at events s)
-    pub is_open : Bool
-    pub replies : replied_as reply ≡ response_of (firsts (event_at events) t) x.rid
-    pub opened : is_open ≡ left_open (replied_as reply)
-    pub programs : program ≡ get_or table (start.prog % 16) no_program
-    pub replays : Replays logs n answers x.rid x.count start.a start.b is_open (k * 256) program.code old paths end
-    pub done : d ≡ done_in end
-    pub group : FirstFrom (λ i. eqb (of_at ofs i).group (of_at ofs k).group) 0 m f
-    pub row_is : row ≡ row_of (outcome_in (get_or (set progs k start.prog) k 0) paths (k * 256) end) (replied_as reply)
-        (ended silent (path_at (set progs k start.prog) (set lengths k d) paths f))
-
-  pub judging-start : (progs lengths paths : List ℕ) → m ≤ 64 → length progs ≡ 64 → length lengths ≡ 64 → length paths ≡ 16384 →
-      Judging progs lengths paths 0
-  judging-start progs lengths paths few a b c = record {
-    within = omega arith;
+  pub judging-start : (paths : List Path) → length ofs ≤ 64 → length paths ≡ 64 → Short paths → Judging paths 0
+  judging-start paths few room short = record {
     few = few;
-    progs_room = a;
-    lengths_room = b;
-    paths_room = c;
-    short = λ j h. absurd (omega arith);
-    kept = λ known ready opening from j h. absurd (omega arith);
-    rest = λ known ready opening from.
-        let z : m - 0 ≡ m = omega arith in
-        let e : firsts (of_at ofs) m ≡ firsts (λ i. of_at ofs (0 + i)) (m - 0) =
-        firsts_same (of_at ofs) (λ i. of_at ofs (0 + i)) m (λ i _. let o : i ≡ 0 + i = omega arith in ap (of_at ofs) o)
-        ∙ ap (firsts (λ i. of_at ofs (0 + i))) (sym z) in
-        ap (λ xs. first_fault (replay_checks (machine_of table) opening all 1 xs)) e;
+    room = room;
+    short = short;
+    kept = λ n j h. absurd (omega arith);
+    rest = λ n. refl;
   }
 
-  pub step_of : (x : Of) (k : ℕ) (progs lengths old paths : List ℕ) (start : Arrival) (d row : ℕ) → x ≡ of_at ofs k →
-      Step x k progs lengths old paths start d row → Step (of_at ofs k) k progs lengths old paths start d row
-  step_of x k progs lengths old paths start d row e w = subst (λ x. Step x k progs lengths old paths start d row) e w
+  -- what was looked up and replayed for the request in slot k, and the row that it breaks
+  pub record Step (k f : ℕ) (paths : List Path) (path : Path) (row : Option ℕ) : Type 0 where
+    pub reply : Option Reply_
+    pub is_open : Bool
+    pub end : Option Ended
+    pub same : Bool
+    pub group : f ≡ unwrap_or (position (λ x. x.group == (of_at ofs k).group) ofs) k
+    pub replies : replied_as reply ≡ response_of trace (of_at ofs k).rid
+    pub opened : is_some reply ≡ not is_open
+    pub replays : ReplaysRequest table trace (of_at ofs k) is_open c (path_at paths k) path end
+    pub same_is : same ≡ same_path (way (path_at (set paths k path) k)) (way (path_at (set paths k path) f))
+    pub row_is : row ≡ row_by end reply same
 
-  -- what the row asks for
-  pub row-ready : (k f d e : ℕ) (progs lengths paths : List ℕ) → Judging progs lengths paths k → k < m →
-      FirstFrom (λ i. eqb (of_at ofs i).group (of_at ofs k).group) 0 m f → d ≡ e → e ≤ 256 →
-      (k < 64) × (f < 64) × (get_or (set lengths k d) k 0 ≡ e) × (e ≤ 256)
-  row-ready k f d e progs lengths paths j low g p h =
-      let l = first-before (λ i. eqb (of_at ofs i).group (of_at ofs k).group) m f k g low (eqb-self (of_at ofs k).group) in (
-        omega (arith, j.few),
-        omega (arith, j.few),
-        get_or-set_same lengths k d 0 (omega (arith, j.lengths_room, j.few)) ∙ p,
-        h,
-      )
+  -- the paths stay short
+  pub stay-short : (k : ℕ) (paths : List Path) (path : Path) → Judging paths k → k < length ofs → path.done ≤ 256 → Short (set paths k path)
+  stay-short k paths path j low h i = by_eq i k
+      (λ p _. subst (λ i. (path_at (set paths k path) i).done ≤ 256) (sym p)
+      (subst (λ x. x.done ≤ 256) (sym (get_or-set_same paths k path no_path (omega (arith, j.room, j.few)))) h))
+      (λ p _. subst (λ x. x.done ≤ 256) (sym (get_or-set_other paths k i path no_path p)) (j.short i))
 
-  module _ (k : ℕ) (progs lengths old paths : List ℕ) (start : Arrival) (d row : ℕ) (j : Judging progs lengths old k) (low : k < m)
-      (w : Step (of_at ofs k) k progs lengths old paths start d row) where
-    abbrev progs' : List ℕ
-    progs' = set progs k start.prog
+  module _ (k f : ℕ) (paths : List Path) (path : Path) (row : Option ℕ) (j : Judging paths k) (low : k < length ofs)
+      (w : Step k f paths path row) where
+    abbrev paths' : List Path
+    paths' = set paths k path
 
-    abbrev lengths' : List ℕ
-    lengths' = set lengths k d
+    own-path : path_at paths' k ≡ path
+    own-path = get_or-set_same paths k path no_path (omega (arith, j.room, j.few))
 
-    prog-is : get_or progs' k 0 ≡ start.prog
-    prog-is = get_or-set_same progs k start.prog 0 (omega (arith, j.progs_room, j.few))
+    module _ (n : Known) where
+      replayed-is : (o : Math.Option Process) → replayed table c n.opening (of_at ofs k) (response_of trace (of_at ofs k).rid) o
+          ≡ replay_from (machine_of table) n.opening b (of_at ofs k).rid o
+      replayed-is none = refl
+      replayed-is (some p) =
+          let l = n.lines in
+          let q = counted_is n.known b n.ready k low in
+          λ i. replay (machine_of table) (claim (machine_of table) (l i) n.opening (of_at ofs k).rid)
+          (response_of trace (of_at ofs k).rid) (sym q i) 1 p ((machine_of table).advance p)
 
-    length-is : get_or lengths' k 0 ≡ d
-    length-is = get_or-set_same lengths k d 0 (omega (arith, j.lengths_room, j.few))
-
-    first-low : w.f ≤ k
-    first-low = first-before (λ i. eqb (of_at ofs i).group (of_at ofs k).group) m w.f k w.group low (eqb-self (of_at ofs k).group)
-
-    -- the paths kept before
-    kept-path : (i : ℕ) → i < k → path_at progs lengths old i ≡ path_at progs' lengths' paths i
-    kept-path i h =
-        let p : get_or progs i 0 ≡ get_or progs' i 0 = sym (get_or-set_other progs k i start.prog 0 (λ e. omega arith)) in
-        let l : get_or lengths i 0 ≡ get_or lengths' i 0 = sym (get_or-set_other lengths k i d 0 (λ e. omega arith)) in
-        let q : path_in old (i * 256) (get_or lengths i 0) ≡ path_in paths (i * 256) (get_or lengths i 0) =
-        firsts_same (λ a. get_or old (i * 256 + a) 0) (λ a. get_or paths (i * 256 + a) 0) (get_or lengths i 0)
-        (λ (a : ℕ). λ (b : a < get_or lengths i 0). sym (w.replays.kept (i * 256 + a) (omega (arith, j.short i h)))) in
-        (λ a. p a ∷ q a) ∙ ap (λ x. get_or progs' i 0 ∷ path_in paths (i * 256) x) l
-
-    module _ (known : ℕ → Bool) (ready : Ready known all) (opening : ℕ → Content) (from : From opening) where
-      code_is : code_at table start.prog ≡ w.program.code
-      code_is =
-          let b = program-below table here known ready k low w.s w.requests start w.starts in
-          ap (λ i. (get_or table i no_program).code) (sym (mod-eq_of_lt b)) ∙ ap (λ p. p.code) (sym w.programs)
-
-      outcome-is : outcomes opening k ≡ outcome_in start.prog paths (k * 256) w.end
+      outcome-is : outcomes n k ≡ outcome_by path w.end
       outcome-is =
           let r = (of_at ofs k).rid in
-          let p = (machine_of table).start start.prog start.a start.b in
-          let a = sym w.replies in
-          let c = counted_is table here known ready k low in
-          ap (replay_from (machine_of table) opening all r)
-          (request-is table here known ready k low w.s w.requests start w.starts)
-          ∙ (λ i. replay (machine_of table) (claim (machine_of table) all.log opening r) (a i) (c i) 1 p ((machine_of table).advance p))
-          ∙ sym (w.replays.outcome (record { table = table; opening = opening; answered = from }) start.prog (replied_as w.reply) code_is (sym w.opened))
+          sym (w.replays.outcome (ready-table n.known b n.ready r) n.opening n.answered (response_of trace r)
+          (ap left_open (sym w.replies) ∙ open-is w.reply w.is_open w.opened)
+          ∙ replayed-is _)
 
-      own : (reply : Replied) (e : ℕ) → w.end ≡ Ended reply e → outcomes opening k ≡ ended (replied_as reply) (path_at progs' lengths' paths k)
-      own reply e q =
-          let l : e ≡ get_or lengths' k 0 = sym (length-is ∙ w.done ∙ ap done_in q) in
-          let p : start.prog ≡ get_or progs' k 0 = sym prog-is in
-          outcome-is ∙ ap (outcome_in start.prog paths (k * 256)) q
-          ∙ (λ i. ended (replied_as reply) (p i ∷ path_in paths (k * 256) (l i)))
-
-      kept_more : (reply : Replied) (e : ℕ) → w.end ≡ Ended reply e → (i : ℕ) → i ≤ k →
-          (reply : Reply) × (outcomes opening i ≡ ended reply (path_at progs' lengths' paths i))
-      kept_more reply e q i h = by_eq i k
-          (λ p _. subst (λ i. (reply : Reply) × (outcomes opening i ≡ ended reply (path_at progs' lengths' paths i))) (sym p)
-          (replied_as reply, own reply e q))
+      kept_more : (e : Ended) → w.end ≡ Some e → (i : ℕ) → i ≤ k → (reply : Reply) × (outcomes n i ≡ ended reply (way (path_at paths' i)))
+      kept_more e q i h = by_eq i k
+          (λ p _. subst (λ i. (reply : Reply) × (outcomes n i ≡ ended reply (way (path_at paths' i)))) (sym p)
+          (replied_as e.reply, outcome-is ∙ ap (outcome_by path) q ∙ ap (λ x. ended (replied_as e.reply) (way x)) (sym own-path)))
           (λ p _.
-          let g = j.kept known ready opening from i (omega arith) in
-          (g.0, g.1 ∙ ap (ended g.0) (kept-path i (omega arith))))
+          let g = j.kept n i (omega arith) in
+          (g.0, g.1 ∙ ap (λ x. ended g.0 (way x)) (sym (get_or-set_other paths k i path no_path p))))
 
       -- the row that was found is the row of the definitions
-      first-is : first_of (firsts (of_at ofs) m) (of_at ofs k).group ≡ (of_at ofs w.f).rid
-      first-is =
-          search-hit (λ (c : Unit {0}) xs. first_of xs (of_at ofs k).group) (λ x. eqb x.group (of_at ofs k).group) (λ c x. x.rid)
-          (λ c x. c)
-          (λ c x xs. refl) m w.f (of_at ofs) tt w.group (omega (arith, first-low))
-
       abbrev response : Reply
-      response = response_of (firsts (event_at events) t) (of_at ofs k).rid
+      response = response_of trace (of_at ofs k).rid
 
       abbrev first_outcome : Outcome
-      first_outcome = outcome (machine_of table) opening all (first_of (firsts (of_at ofs) m) (of_at ofs k).group)
+      first_outcome = outcome (machine_of table) n.opening b (first_of ofs (of_at ofs k).group)
 
-      row-real : row ≡ row_of (outcomes opening k) response first_outcome
-      row-real = by_end w.end
-          (λ q.
-          w.row_is ∙ ap (λ e. row_of (outcome_in (get_or progs' k 0) paths (k * 256) e) (replied_as w.reply)
-          (ended silent (path_at progs' lengths' paths w.f))) q
-          ∙ sym (ap (λ o. row_of o response first_outcome) (outcome-is ∙ ap (outcome_in start.prog paths (k * 256)) q)))
-          (λ own e q.
-          let g = kept_more own e q w.f first-low in
-          let o : outcome_in (get_or progs' k 0) paths (k * 256) w.end ≡ outcomes opening k =
-          ap (λ p. outcome_in p paths (k * 256) w.end) prog-is ∙ sym outcome-is in
-          let c : ended g.0 (path_at progs' lengths' paths w.f) ≡ first_outcome =
-          sym (ap (outcome (machine_of table) opening all) first-is ∙ g.1) in
-          let a = w.replies in
-          w.row_is ∙ row_first (outcome_in (get_or progs' k 0) paths (k * 256) w.end) (replied_as w.reply) g.0
-          (path_at progs' lengths' paths w.f) ∙ (λ i. row_of (o i) (a i) (c i)))
+      row-real : row ≡ row_of (outcomes n k) response first_outcome
+      row-real =
+          w.row_is
+          ∙ by_option w.end
+          (λ q. row-differs path w.reply w.same w.end q first_outcome)
+          (λ e q.
+          let g = kept_more e q f (first-low ofs k f low w.group) in
+          let o : first_outcome ≡ ended g.0 (way (path_at paths' f)) =
+          ap (outcome (machine_of table) n.opening b) (first-rid ofs k f low w.group) ∙ g.1 in
+          row-ends path w.reply w.same w.end e q g.0 (way (path_at paths' f))
+          (w.same_is ∙ ap (λ x. same_path (way x) (way (path_at paths' f))) own-path)
+          ∙ ap (row_of (outcome_by path w.end) (replied_as w.reply)) (sym o))
+          ∙ (λ i. row_of (sym outcome-is i) (w.replies i) first_outcome)
 
-      checks-split : checks_from opening k ≡ checks_of (outcomes opening k) response first_outcome (suc k) (checks_from opening (k + 1))
+      checks-split : checks_from n k ≡ checks_of (outcomes n k) response first_outcome (suc k) (checks_from n (k + 1))
       checks-split =
           let e : suc k ≡ k + 1 = omega arith in
-          ap (replay_checks (machine_of table) opening all (suc k)) (firsts-split (of_at ofs) k m low)
-          ∙ ap (λ i. request_checks (machine_of table) opening all (suc k) (of_at ofs k)
-          ++ replay_checks (machine_of table) opening all (suc i) (firsts (λ i. of_at ofs (k + 1 + i)) (m - (k + 1)))) e
+          ap (replay_checks (machine_of table) n.opening b (suc k)) (drop_more ofs k no_of low)
+          ∙ ap (λ i. checks_of (outcomes n k) response first_outcome (suc k)
+          (replay_checks (machine_of table) n.opening b (suc i) (drop (k + 1) ofs))) e
 
-    pub judging-stop : (row ≡ 0 → ⊥) → JudgesRequests table here answers (record { row = row; line = k + 1 })
-    judging-stop z known ready opening from =
+    pub judging-stop : (r : ℕ) → row ≡ Some r → JudgesRequests table b c (Err (record { row = r; line = k + 1 }))
+    judging-stop r z known ready lines opening answered =
+        let n : Known = record { known = known; ready = ready; lines = lines; opening = opening; answered = answered } in
         let e : k + 1 ≡ suc k = omega arith in
-        ap (verdict row) e
-        ∙ row-some (outcomes opening k) (response known ready opening from) (first_outcome known ready opening from) (suc k)
-        (checks_from opening (k + 1)) row (row-real known ready opening from) z
-        ∙ sym (j.rest known ready opening from ∙ ap first_fault (checks-split known ready opening from))
+        ap (verdict r) e
+        ∙ row-some (outcomes n k) (response n) (first_outcome n) (suc k) (checks_from n (k + 1)) r (sym z ∙ row-real n)
+        ∙ sym (j.rest n ∙ ap first_fault (checks-split n))
 
-    pub judging-next : row ≡ 0 → Judging progs' lengths' paths (k + 1)
+    pub judging-next : row ≡ None → Judging paths' (k + 1)
     judging-next z = record {
-      within = omega arith;
       few = j.few;
-      progs_room = length-set progs k start.prog ∙ j.progs_room;
-      lengths_room = length-set lengths k d ∙ j.lengths_room;
-      paths_room = w.replays.room;
-      short = λ i h. by_eq i k
-          (λ p _. subst (λ i. get_or lengths' i 0 ≤ 256) (sym p) (subst (λ x. x ≤ 256) (sym (length-is ∙ w.done)) w.replays.few))
-          (λ p _. subst (λ x. x ≤ 256) (sym (get_or-set_other lengths k i d 0 p)) (j.short i (omega arith)));
-      kept = λ known ready opening from i h. by_end w.end
+      room = length-set paths k path ∙ j.room;
+      short = stay-short k paths path j low (w.replays.few (j.short k));
+      kept = λ n i h. by_option w.end
           (λ q.
-          let e : 0 ≡ 10 = sym z ∙ w.row_is ∙ ap (λ e. row_of (outcome_in (get_or progs' k 0) paths (k * 256) e)
-          (replied_as w.reply) (ended silent (path_at progs' lengths' paths w.f))) q in
-          absurd (omega arith))
-          (λ own e q. kept_more known ready opening from own e q i (omega arith));
-      rest = λ known ready opening from.
-          j.rest known ready opening from ∙ ap first_fault (checks-split known ready opening from)
-          ∙ row-none (outcomes opening k) (response known ready opening from) (first_outcome known ready opening from) (suc k)
-          (checks_from opening (k + 1)) (sym (row-real known ready opening from) ∙ z);
+          let e : None ≡ Some 10 = sym z ∙ w.row_is ∙ ap (λ e. row_by e w.reply w.same) q in
+          clash (cc))
+          (λ e q. kept_more n e q i (omega arith));
+      rest = λ n.
+          j.rest n ∙ ap first_fault (checks-split n)
+          ∙ row-none (outcomes n k) (response n) (first_outcome n) (suc k) (checks_from n (k + 1)) (sym (row-real n) ∙ z);
     }
 
-  pub judging-end : (k : ℕ) (progs lengths paths : List ℕ) → Judging progs lengths paths k → m ≤ k →
-      JudgesRequests table here answers (record { row = 0; line = 0 })
-  unfolding firsts
-  judging-end k progs lengths paths j h known ready opening from =
-      let z : m - k ≡ 0 = omega arith in
-      sym (j.rest known ready opening from ∙ ap (λ i. first_fault (replay_checks (machine_of table) opening all (suc k)
-      (firsts (λ i. of_at ofs (k + i)) i))) z)
+  pub judging-end : (k : ℕ) (paths : List Path) → Judging paths k → length ofs ≤ k → JudgesRequests table b c (Ok tt)
+  judging-end k paths j h known ready lines opening answered =
+      let n : Known = record { known = known; ready = ready; lines = lines; opening = opening; answered = answered } in
+      sym (j.rest n ∙ ap (λ xs. first_fault (replay_checks (machine_of table) opening b (suc k) xs)) (drop_all k ofs h))
+
+pub judges_same : (table : List Program) (a b : Batch) → a ≡ b → (c : Claimed) (r : Result (Unit {0}) Fault) → JudgesRequests table a c r →
+    JudgesRequests table b c r
+judges_same table a b e c r = subst (λ b. JudgesRequests table b c r) e
+
+-- a row that a request breaks is one of the table
+pub row-not_0 : (end : Option Ended) (reply : Option Reply_) (same_way : Bool) (row : ℕ) → row_by end reply same_way ≡ Some row → row ≢ 0
+row-not_0 None reply same row e z = clash (omega (arith, ap (λ o. unwrap_or o 0) e, z))
+row-not_0 (Some x) reply same row e z = tested _ same e
+  where
+    tested : (differs same : Bool) → cond differs (Some 11) (cond same None (Some 12)) ≡ Some row → ⊥
+    tested true same e = omega (arith, ap (λ o. unwrap_or o 0) e, z)
+    tested false true e = clash (cc)
+    tested false false e = omega (arith, ap (λ o. unwrap_or o 0) e, z)

@@ -1,105 +1,108 @@
--- What is looked up of the request in a slot: its line, its response, and its count, as the definitions have them.
-use mathlib.Core.Bool.{Bool, true, cond}
-use mathlib.Core.List.{List, ◌∷◌, Memᴰ}
-use mathlib.Core.Option.{Option, none, some}
-use mathlib.Core.Path.{◌≡◌, refl, sym, ap, ◌∙◌}
-use Prim.Native.Nat.{ℕ, ◌≤◌, ◌<◌}
-use borrow.Author.Tests.{ltb-true, ltb-false}
-use lib.Dec.{ltb}
-use Rattle.basics.specs.Firsts.{firsts}
-use Rattle.basics.specs.Scans.{FirstFrom}
-use Rattle.basics.proofs.Firsts.{firsts-all, firsts-mem}
+-- What is looked up of a request, as the definitions have it, and what a batch that is ready says of it.
+use Rattle.std.proofs.Common.{◌≡◌, ℕ, ◌%◌, ◌<◌, Bool, true, false, not, eqb, List, [], ◌∷◌, length, get_or, Option, Some, None, refl, sym, ap, subst, ◌∙◌, arith}
+use Rattle.std.proofs.Math.Option.{none, some}
+use Rattle.std.proofs.Math.Option as Math
+use Rattle.std.specs.Option.{is_some}
+use mathlib.Core.List.{Memᴰ}
+use native.Mathlib.Nat.{mod-eq_of_lt}
+use Rattle.basics.specs.Lists.{All}
+use Rattle.basics.proofs.Firsts.{firsts-mem, firsts-get_or}
 use Rattle.basics.proofs.Tests.{clash, by_bool}
-use Rattle.text.specs.Held.{event_at, of_at}
+use Rattle.text.specs.Held.{no_of, of_at}
+use Rattle.text.specs.Programs.{no_program}
 use Rattle.text.specs.declared.programs.Program.{Program}
+use Rattle.text.specs.declared.report.Of.{Of}
 use Rattle.text.specs.declared.trace.Event.TheVariants.{Request, Response}
 use Rattle.text.specs.declared.trace.Event.{Event}
 use Rattle.model.specs.Batch.{Batch, count_of}
-use Rattle.model.specs.Machine.{Machine}
-use Rattle.model.specs.Replay.{Reply, silent, said, response_of, request_of}
-use Rattle.model.proofs.Requests.{ofs-counted, ofs-asked}
-use Rattle.model.proofs.Trace.{KnownIn, row4-order}
-use Rattle.machine.specs.Instance.{machine_of}
-use Rattle.replay.specs.Arrays.{Arrays, batch_held}
+use Rattle.model.specs.Replay.{Reply, request_of}
+use Rattle.model.proofs.Requests.{ofs-counted}
+use Rattle.model.proofs.Trace.{Formed, KnownIn, row4-order, row6-matching}
+use Rattle.machine.specs.Instance.{Process, code_at, machine_of}
+use Rattle.machine.specs.Objects.{Content}
+use Rattle.replay.specs.Index.{Claimed}
 use Rattle.replay.specs.Judges.{Ready}
-use Rattle.replay.specs.Promises.{opens, closes, arrival_of}
-use Rattle.replay.specs.declared.replays.Arrival.{Arrival}
-use Rattle.replay.proofs.Ready.{ready-formed}
-use Rattle.basics.proofs.Searches.{search-hit, search-none}
+use Rattle.replay.specs.Promises.{arrival_of, replied_as, left_open, AnsweredFrom, Setting, outcome_in, outcome_by, replayed, InTable, Replays, ReplaysRequest}
+use Rattle.replay.specs.declared.lookups.Arrival.{Arrival}
+use Rattle.replay.specs.declared.lookups.Response.{Response as Reply_}
+use Rattle.replay.specs.declared.paths.Path.{Path}
+use Rattle.replay.specs.declared.replays.Ended.{Ended}
 
-module _ (M : Machine) (r : ℕ) where
-  abbrev start_from : Event → Option M.Process
-  start_from (Request q prog a b) = some (M.start prog a b)
-  start_from (Response q s v) = none
+-- ── the request of a rid, at its start ──
+abbrev started : List Program → Option Arrival → Math.Option Process
+started table None = none
+started table (Some a) = some ((machine_of table).start a.prog a.a a.b)
 
-  request-step : (c : Unit {0}) (e : Event) (es : List Event) → request_of M (e ∷ es) r ≡ cond (opens r e) (start_from e) (request_of M es r)
-  request-step c (Request q prog a b) es = refl
-  request-step c (Response q s v) es = refl
+request-is : (table : List Program) (events : List Event) (r : ℕ) → request_of (machine_of table) events r ≡ started table (arrival_of events r)
+request-is table [] r = refl
+request-is table (Request q prog a b ∷ es) r = by_bool (eqb q r) (λ e. rw e) (λ e. rw e (request-is table es r))
+request-is table (Response q s v ∷ es) r = request-is table es r
 
-  start-opens : (e : Event) → opens r e ≡ true → start_from e ≡ some (M.start (arrival_of e).prog (arrival_of e).a (arrival_of e).b)
-  start-opens (Request q prog a b) h = refl
-  start-opens (Response q s v) h = clash (cc)
+-- what the trace has for it
+pub open-is : (reply : Option Reply_) (is_open : Bool) → is_some reply ≡ not is_open → left_open (replied_as reply) ≡ is_open
+open-is None true e = refl
+open-is None false e = clash (cc)
+open-is (Some x) true e = clash (cc)
+open-is (Some x) false e = refl
 
--- what an event has for its request: its response, or none
-abbrev pub reply_from : Event → Reply
-reply_from (Request q prog a b) = silent
-reply_from (Response q s v) = said s v
+-- ── its replay ──
+module _ (table : List Program) (events : List Event) (x : Of) (is_open : Bool) (c : Claimed) where
+  pub no-request : arrival_of events x.rid ≡ None → (old : Path) (end : Option Ended) → end ≡ None →
+      ReplaysRequest table events x is_open c old old end
+  no-request e old end q = record {
+    few = λ h. h;
+    outcome = λ _ opening _ reply _.
+        ap (outcome_by old) q ∙ sym (ap (replayed table c opening x reply) (request-is table events x.rid ∙ ap (started table) e));
+  }
 
-module _ (r : ℕ) where
-  response-step : (c : Unit {0}) (e : Event) (es : List Event) → response_of (e ∷ es) r ≡ cond (closes r e) (reply_from e) (response_of es r)
-  response-step c (Request q prog a b) es = refl
-  response-step c (Response q s v) es = refl
+  module _ (a : Arrival) (e : arrival_of events x.rid ≡ Some a) (positions : List ℕ) (end : Option Ended)
+      (s : Replays c x.rid x.count a.a a.b is_open (get_or table (a.prog % 16) no_program).code positions end) where
+    comes : InTable events x.rid → (opening : ℕ → Content) → AnsweredFrom opening c → (reply : Reply) → left_open reply ≡ is_open →
+        outcome_in a.prog positions end ≡ replayed table c opening x reply (request_of (machine_of table) events x.rid)
+    comes t opening h reply o =
+        let w : Setting c = record { table = table; opening = opening; answered = h } in
+        let b : code_at table a.prog ≡ (get_or table (a.prog % 16) no_program).code =
+        ap (λ i. (get_or table i no_program).code) (sym (mod-eq_of_lt (t a e))) in
+        s.outcome w a.prog reply b o ∙ sym (ap (replayed table c opening x reply) (request-is table events x.rid ∙ ap (started table) e))
 
-  -- what is found of a response among the first t events
-  module _ (f : ℕ → Event) (t s : ℕ) (g : FirstFrom (λ i. closes r (f i)) 0 t s) where
-    pub response-there : s < t → response_of (firsts f t) r ≡ reply_from (f s)
-    response-there = search-hit (λ (c : Unit {0}) es. response_of es r) (closes r) (λ c e. reply_from e) (λ c e. c) response-step t s f tt g
+    pub replay-differs : end ≡ None → (old path : Path) → path.done ≡ old.done → (end' : Option Ended) → end' ≡ None →
+        ReplaysRequest table events x is_open c old path end'
+    replay-differs q old path d end' p = record {
+      few = λ h. omega (arith, d, h);
+      outcome = λ t opening h reply o. ap (outcome_by path) p ∙ sym (ap (outcome_in a.prog positions) q) ∙ comes t opening h reply o;
+    }
 
-    pub response-missing : t ≤ s → response_of (firsts f t) r ≡ silent
-    response-missing = search-none (λ (c : Unit {0}) es. response_of es r) (closes r) (λ c e. reply_from e) (λ c e. c) response-step t s f tt g
+    pub replay-ends : (d : Ended) → end ≡ Some d → (old : Path) →
+        ReplaysRequest table events x is_open c old (record { prog = a.prog; done = d.done; positions = positions }) (Some d)
+    replay-ends d q old = record {
+      few = λ _. rw q at s.few;
+      outcome = λ t opening h reply o. sym (ap (outcome_in a.prog positions) q) ∙ comes t opening h reply o;
+    }
 
-known-opens : (known : ℕ → Bool) (r : ℕ) (e : Event) → opens r e ≡ true → KnownIn known e → known (arrival_of e).prog ≡ true
-known-opens known r (Request q prog a b) h k = k
-known-opens known r (Response q s v) h k = clash (cc)
+-- ── a batch that is ready ──
+known-arrival : (known : ℕ → Bool) (r : ℕ) (es : List Event) → All (KnownIn known) es → (a : Arrival) → arrival_of es r ≡ Some a →
+    known a.prog ≡ true
+known-arrival known r [] k a e = clash (cc)
+known-arrival known r (Request q prog x y ∷ es) k a e = by_bool (eqb q r)
+    (λ t.
+    let z : Some (record { prog = prog; a = x; b = y }) ≡ Some a = rw t at e in
+    let y : record { prog = prog; a = x; b = y } ≡ a = cc in
+    ap (λ x. known x.prog) (sym y) ∙ k.0)
+    (λ t. known-arrival known r es k.1 a (rw t at e))
+known-arrival known r (Response q s v ∷ es) k a e = known-arrival known r es k.1 a e
 
-module _ (table : List Program) (here : Arrays) where
-  open here use {events, t, ofs, m, logs, n}
+module _ (known : ℕ → Bool) (b : Batch) (ready : Ready known b) where
+  pub ready-formed : Formed b
+  ready-formed = record {
+    in_order = ((row4-order known b.trace).0 ready.none_to_7.0).0;
+    matching = (row6-matching b).0 ready.none_to_7.1;
+  }
 
-  abbrev batch : Batch
-  batch = batch_held here
+  pub ready-table : (r : ℕ) → InTable b.trace r
+  ready-table r a e =
+      ready.programs a.prog (known-arrival known r b.trace ((row4-order known b.trace).0 ready.none_to_7.0).1 a e)
 
-  -- ── the request in a slot ──
-  module _ (known : ℕ → Bool) (ready : Ready known batch) (k : ℕ) (low : k < m) where
-    abbrev r : ℕ
-    r = (of_at ofs k).rid
-
-    mem : Memᴰ (of_at ofs k) batch.ofs
-    mem = firsts-mem (of_at ofs) m k low
-
-    module _ (s : ℕ) (f : FirstFrom (λ i. opens r (event_at events i)) 0 t s) where
-      arrived : s < t
-      arrived = by_bool (ltb s t) (λ h. ltb-true s t h) (λ h. clash
-          (let e = search-none (λ (c : Unit {0}) es. request_of (machine_of table) es r) (opens r) (λ c e. start_from (machine_of table) r e)
-          (λ c e. c)
-          (request-step (machine_of table) r) t s (event_at events) tt f (ltb-false s t h) in
-          let a = ofs-asked (machine_of table) batch (ready-formed known batch ready) (of_at ofs k) mem in
-          let d = a.1 in cc))
-
-      opened : opens r (event_at events s) ≡ true
-      opened = (f.found arrived).1
-
-      module _ (start : Arrival) (e : start ≡ arrival_of (event_at events s)) where
-        pub request-is : request_of (machine_of table) batch.trace r ≡ some ((machine_of table).start start.prog start.a start.b)
-        request-is =
-            search-hit (λ (c : Unit {0}) es. request_of (machine_of table) es r) (opens r) (λ c e. start_from (machine_of table) r e) (λ c e. c)
-            (request-step (machine_of table) r) t s (event_at events) tt f arrived
-            ∙ start-opens (machine_of table) r (event_at events s) opened
-            ∙ ap (λ x. some ((machine_of table).start x.prog x.a x.b)) (sym e)
-
-        pub program-below : start.prog < 16
-        program-below = ready.programs start.prog (ap (λ x. known x.prog) e
-            ∙ known-opens known r (event_at events s) opened
-            (firsts-all (KnownIn known) (event_at events) t s ((row4-order known batch.trace).0 ready.none_to_7.0).1 arrived))
-
-    pub counted_is : count_of batch.ofs r ≡ (of_at ofs k).count
-    counted_is = ofs-counted batch (ready-formed known batch ready) (of_at ofs k) mem
+  pub counted_is : (k : ℕ) → k < length b.ofs → count_of b.ofs (of_at b.ofs k).rid ≡ (of_at b.ofs k).count
+  counted_is k low =
+      ofs-counted b ready-formed (of_at b.ofs k)
+      (subst (Memᴰ (of_at b.ofs k)) (firsts-get_or b.ofs no_of) (firsts-mem (of_at b.ofs) (length b.ofs) k low))

@@ -1,16 +1,7 @@
 -- Laws of one request's replay: what each instruction does to it, and how it ends.
-use mathlib.Core.Bool.{Bool, true, false, cond, ◌&&◌}
-use mathlib.Core.List.{List, [], ◌∷◌, ◌++◌}
-use mathlib.Core.Path.{◌≡◌, refl, sym, ap, subst, ◌∙◌}
-use Prim.Native.Nat.{ℕ, zero, suc, ◌+◌, ◌-◌, ◌%◌, ◌≤◌, ◌<◌}
+use Rattle.std.proofs.Common.{◌≡◌, ℕ, zero, suc, ◌+◌, ◌-◌, ◌%◌, ◌≤◌, ◌<◌, Bool, true, false, cond, ◌&&◌, eqb, List, [], ◌∷◌, ◌++◌, length, get_or, set, take, Option, Some, None, refl, sym, ap, subst, ◌∙◌, arith, add-one}
+use Rattle.std.proofs.lemmas.List.{length-set, take_more_set}
 use borrow.Author.Tests.{ne_eqb}
-use lib.Dec.{eqb}
-use lib.ListN.{get_or, set, length, length-set}
-use lib.Seq.{get_or-set_same, get_or-set_other}
-use native.Mathlib.Numerals.{add-one}
-use native.Mathlib.Omega.{arith}
-use Rattle.basics.specs.Firsts.{firsts}
-use Rattle.basics.proofs.Firsts.{firsts_more}
 use Rattle.basics.proofs.Tests.{clash, by_bool, by_eq, eqb_yes}
 use Rattle.text.specs.Programs.{no_instr}
 use Rattle.text.specs.declared.programs.Instr.{Instr}
@@ -24,13 +15,13 @@ use Rattle.machine.specs.Instance.{Process, code_at, gone, next_of, resumed_with
 use Rattle.machine.specs.Instructions.{effect, effect_of}
 use Rattle.machine.specs.Processes.{advanced, stop_at, first_locals, limit, instr_at, resumed}
 use Rattle.machine.proofs.Turns.{moved, asked, replied, cut_off}
-use Rattle.replay.specs.Promises.{Setting, claimed_in, Answers, answered_as, replied_as, left_open, most_of, path_in, replay_of, Replays}
-use Rattle.replay.specs.declared.claims.Answered.{Answered}
-use Rattle.replay.specs.declared.claims.Answered.TheVariants.{Wrong, Right}
-use Rattle.replay.specs.declared.replays.End.{End}
-use Rattle.replay.specs.declared.replays.End.TheVariants.{Differs, Ended}
-use Rattle.replay.specs.declared.replays.Replied.{Replied}
-use Rattle.replay.specs.declared.replays.Replied.TheVariants.{Silent, Said}
+use Rattle.replay.specs.Index.{Claimed}
+use Rattle.replay.specs.Promises.{Setting, claimed_in, Answers, answered_as, replied_as, left_open, most_of, ended_with, replay_of, Replays}
+use Rattle.replay.specs.declared.lookups.Response.{Response}
+use Rattle.replay.specs.declared.replays.Ended.{Ended}
+
+abbrev reply_of : (status value : ℕ) → Option Response
+reply_of s v = Some (record { status = s; value = v })
 
 -- ── the definition of a replay, step by step ──
 module _ (M : Machine) (f : ℕ → Claim M) (reply : Reply) where
@@ -91,13 +82,6 @@ module _ (M : Machine) (f : ℕ → Claim M) where
       path_at_end p ≡ path_at_end q → advance p ≡ advance q → replays M f reply n k p ≡ replays M f reply n k q
   alike reply n k p q l h e d = alike_next reply n k p q (advance p) l h e ∙ ap (replay M f reply n k q) d
 
--- ── the path in its row ──
-module _ (base done : ℕ) (paths : List ℕ) (h : base + done < length paths) (x : ℕ) where
-  path-more : path_in (set paths (base + done) x) base (done + 1) ≡ path_in paths base done ++ x ∷ []
-  path-more = firsts_more (λ i. get_or (set paths (base + done) x) (base + i) 0) (λ i. get_or paths (base + i) 0) done x
-      (λ (i : ℕ). λ (l : i < done). get_or-set_other paths (base + done) (base + i) x 0 (λ e. omega arith))
-      (get_or-set_same paths (base + done) x 0 h)
-
 -- ── a replay on its way ──
 abbrev process : (prog : ℕ) (l : List ℕ) (at done : ℕ) → List ℕ → Process
 process prog l at done path = record { prog = prog; locals = l; at = at; done = done; path = path }
@@ -109,57 +93,53 @@ most-within is_open k count done most e h = by_bool (is_open && eqb k count)
     (λ t. omega (arith, rw t at e))
 
 -- two processes of one program that go on alike are replayed alike
-same-gone : {logs : List ℕ} {n : ℕ} {answers : List ℕ} (w : Setting logs n answers) (rid : ℕ) (reply : Reply) (left k : ℕ) (p q : Process) →
+same-gone : {held : Claimed} (w : Setting held) (rid : ℕ) (reply : Reply) (left k : ℕ) (p q : Process) →
     (left_open reply ≡ true → 0 < left) → p.prog ≡ q.prog → gone limit w.table p ≡ gone limit w.table q →
     replay_of w rid reply left k p ≡ replay_of w rid reply left k q
 same-gone w rid reply left k p q l d e =
     alike (machine_of w.table) _ reply left k p q l
     (λ u. λ i. resumed_with (d i) u (e i)) (λ i. d i ∷ (e i).path) (ap (λ t. next_of t.stop.next) e)
 
-module _ (logs : List ℕ) (n : ℕ) (answers : List ℕ) (rid count : ℕ) (is_open : Bool) (base : ℕ) (code : List Instr) (l₀ old : List ℕ) where
-  abbrev claimed : (w : Setting logs n answers) → ℕ → Claim (machine_of w.table)
+module _ (held : Claimed) (rid count : ℕ) (is_open : Bool) (code : List Instr) (l₀ : List ℕ) where
+  abbrev claimed : (w : Setting held) → ℕ → Claim (machine_of w.table)
   claimed w = claimed_in w rid
 
   -- what a replay of program `prog` from the start is
-  abbrev Whole : Setting logs n answers → (prog : ℕ) → Reply → Outcome
+  abbrev Whole : Setting held → (prog : ℕ) → Reply → Outcome
   Whole w prog reply = replay_of w rid reply count 1 (process prog l₀ 0 0 [])
 
-  pub record Going (l : List ℕ) (at done : ℕ) (paths : List ℕ) (k most : ℕ) : Type 0 where
+  pub record Going (l : List ℕ) (at done : ℕ) (positions : List ℕ) (k most : ℕ) : Type 0 where
     pub few : done ≤ 256
     pub bound : most ≡ most_of is_open k count done
     pub within : most ≤ 256
     pub counted : k ≤ count
     pub slower : k ≤ done
-    pub fits : base + 256 ≤ 16384
-    pub room : length paths ≡ 16384
-    pub kept : (i : ℕ) → i < base → get_or paths i 0 ≡ get_or old i 0
-    pub goes : (w : Setting logs n answers) (prog : ℕ) (reply : Reply) → code_at w.table prog ≡ code → left_open reply ≡ is_open →
-        replay_of w rid reply (count - k) (suc k) (process prog l at done (path_in paths base done)) ≡ Whole w prog reply
+    pub room : length positions ≡ 256
+    pub goes : (w : Setting held) (prog : ℕ) (reply : Reply) → code_at w.table prog ≡ code → left_open reply ≡ is_open →
+        replay_of w rid reply (count - k) (suc k) (process prog l at done (take done positions)) ≡ Whole w prog reply
 
-  pub going_start : (most : ℕ) → most ≡ most_of is_open 0 count 0 → base + 256 ≤ 16384 → length old ≡ 16384 → Going l₀ 0 0 old 0 most
-  unfolding firsts
-  going_start most e f r = record {
+  pub going_start : (most : ℕ) → most ≡ most_of is_open 0 count 0 → (positions : List ℕ) → length positions ≡ 256 →
+      Going l₀ 0 0 positions 0 most
+  going_start most e positions r = record {
     few = omega arith;
     bound = e;
     within = most-within is_open 0 count 0 most e (omega arith);
     counted = omega arith;
     slower = omega arith;
-    fits = f;
     room = r;
-    kept = λ i _. refl;
     goes = λ w prog reply c o. let z : count - 0 ≡ count = omega arith in rw z;
   }
 
-  abbrev Ends : List ℕ → End → Type 0
-  Ends paths end = (a b : ℕ) → l₀ ≡ first_locals a b → Replays logs n answers rid count a b is_open base code old paths end
+  abbrev Ends : List ℕ → Option Ended → Type 0
+  Ends positions end = (a b : ℕ) → l₀ ≡ first_locals a b → Replays held rid count a b is_open code positions end
 
-  module _ (l : List ℕ) (at done : ℕ) (paths : List ℕ) (k most : ℕ) (g : Going l at done paths k most) where
+  module _ (l : List ℕ) (at done : ℕ) (positions : List ℕ) (k most : ℕ) (g : Going l at done positions k most) where
     abbrev here : ℕ → Process
-    here prog = process prog l at done (path_in paths base done)
+    here prog = process prog l at done (take done positions)
 
     -- how the replay comes out from here on with so many operations left to do, of any program with this code and any response
     abbrev Comes : (left : ℕ) → (ℕ → Outcome) → Type 0
-    Comes left x = (w : Setting logs n answers) (prog : ℕ) → code_at w.table prog ≡ code → (reply : Reply) → left_open reply ≡ is_open →
+    Comes left x = (w : Setting held) (prog : ℕ) → code_at w.table prog ≡ code → (reply : Reply) → left_open reply ≡ is_open →
         replay_of w rid reply left (suc k) (here prog) ≡ x prog
 
     none_left : (x : ℕ → Outcome) → k ≡ count → Comes 0 x → Comes (count - k) x
@@ -170,46 +150,41 @@ module _ (logs : List ℕ) (n : ℕ) (answers : List ℕ) (rid count : ℕ) (is_
 
     -- what the request does next
     abbrev Does : Next → Type 0
-    Does y = (w : Setting logs n answers) (prog : ℕ) → code_at w.table prog ≡ code → (machine_of w.table).advance (here prog) ≡ y
+    Does y = (w : Setting held) (prog : ℕ) → code_at w.table prog ≡ code → (machine_of w.table).advance (here prog) ≡ y
 
     -- so it comes out from the start
-    from_start : (x : ℕ → Outcome) → Comes (count - k) x → (a b : ℕ) → l₀ ≡ first_locals a b → (w : Setting logs n answers) (prog : ℕ)
+    from_start : (x : ℕ → Outcome) → Comes (count - k) x → (a b : ℕ) → l₀ ≡ first_locals a b → (w : Setting held) (prog : ℕ)
         (reply : Reply) → code_at w.table prog ≡ code → left_open reply ≡ is_open →
         x prog ≡ replay_of w rid reply count 1 ((machine_of w.table).start prog a b)
     from_start x c a b e w prog reply d o =
         sym (c w prog d reply o) ∙ g.goes w prog reply d o ∙ ap (λ l. replay_of w rid reply count 1 (process prog l 0 0 [])) e
 
     -- a request that stops here with a reply: the report counts its operations, or it comes to its end before they are done
-    stopping : (paths' : List ℕ) (done' : ℕ) (reply' : Replied) → length paths' ≡ 16384 →
-        ((i : ℕ) → i < base → get_or paths' i 0 ≡ get_or old i 0) → done' ≤ 256 →
-        (k ≡ count → Comes 0 (λ prog. ended (replied_as reply') (prog ∷ path_in paths' base done'))) →
+    stopping : (positions' : List ℕ) (done' : ℕ) (reply' : Option Response) → done' ≤ 256 →
+        (k ≡ count → Comes 0 (λ prog. ended (replied_as reply') (prog ∷ take done' positions'))) →
         (s v : ℕ) → (k < count → Does (stop s v)) →
-        (end : End) → end ≡ cond (eqb k count) (Ended reply' done') Differs → Ends paths' end
-    stopping paths' done' reply' room kept few last s v next end e a b start = by_eq k count
+        (end : Option Ended) → end ≡ cond (eqb k count) (Some (ended_with reply' done')) None → Ends positions' end
+    stopping positions' done' reply' few last s v next end e a b start = by_eq k count
         (λ p t.
-        let c : end ≡ Ended reply' done' = rw t at e in
-        subst (Replays logs n answers rid count a b is_open base code old paths') (sym c) (record {
-          room = room;
-          kept = kept;
+        let c : end ≡ Some (ended_with reply' done') = rw t at e in
+        subst (Replays held rid count a b is_open code positions') (sym c) (record {
           few = few;
           outcome = from_start _ (none_left _ p (last p)) a b start;
         }))
         (λ p t.
-        let c : end ≡ Differs = rw t at e in
+        let c : end ≡ None = rw t at e in
         let h : k < count = omega (arith, g.counted) in
-        subst (Replays logs n answers rid count a b is_open base code old paths') (sym c) (record {
-          room = room;
-          kept = kept;
+        subst (Replays held rid count a b is_open code positions') (sym c) (record {
           few = omega arith;
           outcome = from_start _ (some_left (λ prog. differs) h (λ w prog d reply o.
               too_few (machine_of w.table) (claimed w) reply (suc k) (here prog) (count - (k + 1)) s v (next h w prog d))) a b start;
         }))
 
     -- a request that goes no further is left open behind its last operation, or has used up its instructions and is cut off
-    pub going-no-further : most ≤ done → (reply' : Replied) → reply' ≡ cond is_open Silent (Said 1 0) →
-        (end : End) → end ≡ cond (eqb k count) (Ended reply' done) Differs → Ends paths end
+    pub going-no-further : most ≤ done → (reply' : Option Response) → reply' ≡ cond is_open None (reply_of 1 0) →
+        (end : Option Ended) → end ≡ cond (eqb k count) (Some (ended_with reply' done)) None → Ends positions end
     going-no-further h reply' r end e =
-        stopping paths done reply' g.room g.kept g.few (λ p. last) 1 0 (λ z w prog d. cuts w prog (early z)) end e
+        stopping positions done reply' g.few (λ p. last) 1 0 (λ z w prog d. cuts w prog (early z)) end e
       where
         used : is_open ≡ false → 256 ≤ done
         used t = omega (arith, rw t at g.bound)
@@ -217,20 +192,20 @@ module _ (logs : List ℕ) (n : ℕ) (answers : List ℕ) (rid count : ℕ) (is_
         early : k < count → 256 ≤ done
         early z = by_bool is_open (λ t. omega (arith, rw (t, ne_eqb k count (λ e. omega arith)) at g.bound)) used
 
-        cut : (w : Setting logs n answers) (prog : ℕ) → 256 ≤ done →
-            gone limit w.table (here prog) ≡ advanced l (stop_at at done Cut) (path_in paths base done)
+        cut : (w : Setting held) (prog : ℕ) → 256 ≤ done →
+            gone limit w.table (here prog) ≡ advanced l (stop_at at done Cut) (take done positions)
         cut w prog c = cut_off limit w.table (here prog) (omega arith)
 
-        cuts : (w : Setting logs n answers) (prog : ℕ) → 256 ≤ done → (machine_of w.table).advance (here prog) ≡ stop 1 0
+        cuts : (w : Setting held) (prog : ℕ) → 256 ≤ done → (machine_of w.table).advance (here prog) ≡ stop 1 0
         cuts w prog c = ap (λ t. next_of t.stop.next) (cut w prog c)
 
-        last : Comes 0 (λ prog. ended (replied_as reply') (prog ∷ path_in paths base done))
+        last : Comes 0 (λ prog. ended (replied_as reply') (prog ∷ take done positions))
         last w prog d reply o = by_bool is_open
             (λ t.
-            let c : reply' ≡ Silent = rw t at r in
+            let c : reply' ≡ None = rw t at r in
             rw c (left (machine_of w.table) (claimed w) (suc k) (here prog) reply (o ∙ t)))
             (λ t.
-            let c : reply' ≡ Said 1 0 = rw t at r in
+            let c : reply' ≡ reply_of 1 0 = rw t at r in
             rw c
             (ends (machine_of w.table) (claimed w) (suc k) (here prog) reply (o ∙ t) 1 0 (cuts w prog (used t))
             ∙ ap (λ t. ended (said 1 0) (prog ∷ t.path)) (cut w prog (used t))))
@@ -250,18 +225,15 @@ module _ (logs : List ℕ) (n : ℕ) (answers : List ℕ) (rid count : ℕ) (is_
       open-left t = by_eq k count (λ p d. let z = rw (t, d) at goes-on in clash (cc)) (λ p d. omega (arith, g.counted))
 
       abbrev marked : List ℕ
-      marked = set paths (base + done) (at % 64)
+      marked = set positions done (at % 64)
 
-      room-marked : length marked ≡ 16384
-      room-marked = length-set paths (base + done) (at % 64) ∙ g.room
+      room-marked : length marked ≡ 256
+      room-marked = length-set positions done (at % 64) ∙ g.room
 
-      kept-marked : (i : ℕ) → i < base → get_or marked i 0 ≡ get_or old i 0
-      kept-marked i l = get_or-set_other paths (base + done) i (at % 64) 0 (λ p. omega arith) ∙ g.kept i l
+      path-marked : take (done + 1) marked ≡ take done positions ++ (at % 64) ∷ []
+      path-marked = take_more_set positions done (at % 64) (omega (arith, g.room, unbound))
 
-      path-marked : path_in marked base (done + 1) ≡ path_in paths base done ++ (at % 64) ∷ []
-      path-marked = path-more base done paths (omega (arith, g.room, g.fits, unbound)) (at % 64)
-
-      does : (w : Setting logs n answers) (prog : ℕ) (y : Act) → code_at w.table prog ≡ code → x ≡ y →
+      does : (w : Setting held) (prog : ℕ) (y : Act) → code_at w.table prog ≡ code → x ≡ y →
           effect_of l (instr_at (code_at w.table prog) at) (at % 64 + 1) ≡ effect m y
       does w prog y d q = rw d (e ∙ ap (effect m) q)
 
@@ -272,9 +244,7 @@ module _ (logs : List ℕ) (n : ℕ) (answers : List ℕ) (rid count : ℕ) (is_
         within = g.within;
         counted = g.counted;
         slower = omega (arith, g.slower);
-        fits = g.fits;
         room = room-marked;
-        kept = kept-marked;
         goes = λ w prog reply d o.
             ap (λ path. replay_of w rid reply (count - k) (suc k) (process prog m to (done + 1) path)) path-marked
             ∙ sym (same-gone w rid reply (count - k) (suc k) (here prog) _ (λ t. open-left (sym o ∙ t)) refl
@@ -283,41 +253,39 @@ module _ (logs : List ℕ) (n : ℕ) (answers : List ℕ) (rid count : ℕ) (is_
       }
 
       -- a fault at this instruction
-      differing : Comes (count - k) (λ prog. differs) → Ends marked Differs
+      differing : Comes (count - k) (λ prog. differs) → Ends marked None
       differing f a b d = record {
-        room = room-marked;
-        kept = kept-marked;
         few = omega arith;
         outcome = from_start (λ prog. differs) f a b d;
       }
 
       module _ (o : Op) (into : ℕ) (q : x ≡ Asks o into) where
-        asks : (w : Setting logs n answers) (prog : ℕ) → code_at w.table prog ≡ code →
+        asks : (w : Setting held) (prog : ℕ) → code_at w.table prog ≡ code →
             gone limit w.table (here prog) ≡ advanced m (stop_at (at % 64 + 1) (done + 1) (Operation o into))
-            (path_in paths base done ++ (at % 64) ∷ [])
+            (take done positions ++ (at % 64) ∷ [])
         asks w prog d = asked limit w.table (here prog) (omega (arith, unbound)) m o into (does w prog (Asks o into) d q)
 
         next : Does (op o)
         next w prog d = ap (λ t. next_of t.stop.next) (asks w prog d)
 
-        pub going-over : count ≤ k → Ends marked Differs
+        pub going-over : count ≤ k → Ends marked None
         going-over z =
             let p : k ≡ count = omega (arith, g.counted) in
             differing (none_left (λ prog. differs) p (λ w prog d reply c.
             one_more (machine_of w.table) (claimed w) (suc k) (here prog) reply (c ∙ answered-at p) o (next w prog d)))
 
         module _ (low : k < count) where
-          answer : (y z : Answered) → Answers logs n answers rid (k + 1) o y → y ≡ z → (w : Setting logs n answers) →
+          answer : (y z : Option ℕ) → Answers held rid (k + 1) o y → y ≡ z → (w : Setting held) →
               compare (machine_of w.table) o (claimed w (suc k)) ≡ answered_as z
           answer y z f p w =
               sym (subst (λ j. answered_as y ≡ compare (machine_of w.table) o (claimed w j)) (add-one k) (f w)) ∙ ap answered_as p
 
-          pub going-wrong : (y : Answered) → Answers logs n answers rid (k + 1) o y → y ≡ Wrong → Ends marked Differs
-          going-wrong y f p = differing (some_left (λ prog. differs) low (λ w prog d reply c.
+          pub going-wrong : (y : Option ℕ) → Answers held rid (k + 1) o y → y ≡ None → (end : Option Ended) → end ≡ None → Ends marked end
+          going-wrong y f p end q = subst (Ends marked) (sym q) (differing (some_left (λ prog. differs) low (λ w prog d reply c.
               unanswered (machine_of w.table) (claimed w) reply (suc k) (here prog) (count - (k + 1)) o (next w prog d)
-              (answer y Wrong f p w)))
+              (answer y None f p w))))
 
-          pub going-right : (y : Answered) (u : ℕ) → Answers logs n answers rid (k + 1) o y → y ≡ Right u → (most' : ℕ) →
+          pub going-right : (y : Option ℕ) (u : ℕ) → Answers held rid (k + 1) o y → y ≡ Some u → (most' : ℕ) →
               most' ≡ most_of is_open (k + 1) count (done + 1) → Going (resumed m into u) (at % 64 + 1) (done + 1) marked (k + 1) most'
           going-right y u f p most' b = record {
             few = omega (arith, unbound);
@@ -325,36 +293,34 @@ module _ (logs : List ℕ) (n : ℕ) (answers : List ℕ) (rid count : ℕ) (is_
             within = most-within is_open (k + 1) count (done + 1) most' b (omega (arith, g.within));
             counted = omega arith;
             slower = omega (arith, g.slower);
-            fits = g.fits;
             room = room-marked;
-            kept = kept-marked;
             goes = λ w prog reply d c.
                 let r = process prog (resumed m into u) (at % 64 + 1) (done + 1) in
                 let z : count - k ≡ suc (count - (k + 1)) = omega arith in
                 let a : replay_of w rid reply (count - k) (suc k) (here prog)
-                ≡ replay_of w rid reply (count - (k + 1)) (suc (suc k)) (r (path_in paths base done ++ (at % 64) ∷ [])) =
+                ≡ replay_of w rid reply (count - (k + 1)) (suc (suc k)) (r (take done positions ++ (at % 64) ∷ [])) =
                 rw z
                 (answered (machine_of w.table) (claimed w) reply (suc k) (here prog) (count - (k + 1)) o u (next w prog d)
-                (answer y (Right u) f p w)
+                (answer y (Some u) f p w)
                 ∙ ap (λ t. replay_of w rid reply (count - (k + 1)) (suc (suc k)) (resumed_with prog u t)) (asks w prog d)) in
                 (λ i. replay_of w rid reply (count - (k + 1)) (suc (add-one k i)) (r (path-marked i))) ∙ sym a
                 ∙ g.goes w prog reply d c;
           }
 
       -- a request that replies
-      pub going-replied : (u : ℕ) → x ≡ Replies u → (end : End) → end ≡ cond (eqb k count) (Ended (Said 0 u) (done + 1)) Differs →
+      pub going-replied : (u : ℕ) → x ≡ Replies u → (end : Option Ended) → end ≡ cond (eqb k count) (Some (ended_with (reply_of 0 u) (done + 1))) None →
           Ends marked end
       going-replied u q end c =
-          stopping marked (done + 1) (Said 0 u) room-marked kept-marked (omega (arith, unbound)) last 0 u (λ h. next) end c
+          stopping marked (done + 1) (reply_of 0 u) (omega (arith, unbound)) last 0 u (λ h. next) end c
         where
-          replies : (w : Setting logs n answers) (prog : ℕ) → code_at w.table prog ≡ code →
-              gone limit w.table (here prog) ≡ advanced m (stop_at (at % 64 + 1) (done + 1) (Replying u)) (path_in paths base done ++ (at % 64) ∷ [])
+          replies : (w : Setting held) (prog : ℕ) → code_at w.table prog ≡ code →
+              gone limit w.table (here prog) ≡ advanced m (stop_at (at % 64 + 1) (done + 1) (Replying u)) (take done positions ++ (at % 64) ∷ [])
           replies w prog d = replied limit w.table (here prog) (omega (arith, unbound)) m u (does w prog (Replies u) d q)
 
           next : Does (stop 0 u)
           next w prog d = ap (λ t. next_of t.stop.next) (replies w prog d)
 
-          last : k ≡ count → Comes 0 (λ prog. ended (said 0 u) (prog ∷ path_in marked base (done + 1)))
+          last : k ≡ count → Comes 0 (λ prog. ended (said 0 u) (prog ∷ take (done + 1) marked))
           last p w prog d reply o =
               ends (machine_of w.table) (claimed w) (suc k) (here prog) reply (o ∙ answered-at p) 0 u (next w prog d)
               ∙ ap (λ path. ended (said 0 u) (prog ∷ path)) (ap (λ t. t.path) (replies w prog d) ∙ sym path-marked)

@@ -1,45 +1,30 @@
 -- Laws of rows 10 to 12 of one request.
-use mathlib.Core.Bool.{Bool, true, false, cond, not}
-use mathlib.Core.List.{List, ◌∷◌}
-use mathlib.Core.Path.{◌≡◌, refl, sym, ap, ◌∙◌}
-use Prim.Native.Nat.{ℕ}
-use native.Mathlib.Omega.{arith}
+use Rattle.std.proofs.Common.{◌≡◌, ℕ, Bool, true, false, cond, not, List, ◌∷◌, Option, Some, None, refl, sym, ap, ◌∙◌}
+use Rattle.basics.proofs.Tests.{clash}
 use Rattle.model.specs.Audit.{bad10, bad11, bad12, same_reply, same_path}
 use Rattle.model.specs.Checks.{Check, check, first_fault, breaks, verdict}
-use Rattle.model.specs.Replay.{Reply, silent, said, Outcome, differs, ended}
-use Rattle.replay.specs.Promises.{replied_as, left_open, path_in, done_in, outcome_in, row_of}
-use Rattle.replay.specs.declared.replays.End.{End}
-use Rattle.replay.specs.declared.replays.End.TheVariants.{Differs, Ended}
-use Rattle.replay.specs.declared.replays.Replied.{Replied}
+use Rattle.model.specs.Replay.{Reply, Outcome, ended}
+use Rattle.replay.specs.Promises.{replied_as, way, outcome_by, row_by}
+use Rattle.replay.specs.declared.lookups.Response.{Response}
+use Rattle.replay.specs.declared.paths.Path.{Path}
+use Rattle.replay.specs.declared.replays.Ended.{Ended}
 
--- ── the row as code finds it ──
-pub silent-same : (reply : Reply) → left_open reply ≡ same_reply silent reply
-silent-same silent = refl
-silent-same (said s v) = refl
+-- the row that a request breaks first: its outcome, its response, and the outcome of the first request of its group
+abbrev pub row_of : Outcome → Reply → Outcome → Option ℕ
+row_of o reply first = cond (bad10 o) (Some 10) (cond (bad11 reply o) (Some 11) (cond (bad12 first o) (Some 12) None))
 
-module _ (prog : ℕ) (paths : List ℕ) (base : ℕ) (end : End) where
-  pub row-differs : end ≡ Differs → (reply : Reply) (first : Outcome) → 10 ≡ row_of (outcome_in prog paths base end) reply first
-  row-differs e reply first = sym (ap (λ x. row_of (outcome_in prog paths base x) reply first) e)
+-- is the row that code finds
+module _ (path : Path) (reply : Option Response) (same : Bool) where
+  pub row-differs : (end : Option Ended) → end ≡ None → (first : Outcome) → row_by end reply same ≡ row_of (outcome_by path end) (replied_as reply) first
+  row-differs end q first = rw q
 
-  module _ (own : Replied) (d : ℕ) (e : end ≡ Ended own d) (reply : Reply) (w : List ℕ) (same : Bool)
-      (a : same ≡ same_reply (replied_as own) reply) where
-    abbrev row : ℕ
-    row = row_of (outcome_in prog paths base end) reply (ended silent w)
-
-    pub row-reply : not same ≡ true → 11 ≡ row
-    row-reply n = rw (e, ← a, n)
-
-    pub row-path : not same ≡ false → (t : ℕ) → t ≡ done_in end → (b : Bool) → b ≡ same_path (prog ∷ path_in paths base t) w → cond b 0 12 ≡ row
-    row-path p t l b c = rw (c, l, e, ← a, p) (either (same_path (prog ∷ path_in paths base d) w))
-      where
-        either : (x : Bool) → ◌≡◌ {A = ℕ} (cond x 0 12) (cond (not x) 12 0)
-        either true = refl
-        either false = refl
-
--- only the path of the group's first request counts
-pub row_first : (o : Outcome) (reply a : Reply) (w : List ℕ) → row_of o reply (ended silent w) ≡ row_of o reply (ended a w)
-row_first differs reply a w = refl
-row_first (ended c v) reply a w = refl
+  pub row-ends : (end : Option Ended) (e : Ended) → end ≡ Some e → (a : Reply) (w : List ℕ) → same ≡ same_path (way path) w →
+      row_by end reply same ≡ row_of (outcome_by path end) (replied_as reply) (ended a w)
+  row-ends end e q a w s = rw (q, s) (ap (cond (not (same_reply (replied_as e.reply) (replied_as reply))) (Some 11)) (either (same_path (way path) w)))
+    where
+      either : (x : Bool) → ◌≡◌ {A = Option ℕ} (cond x None (Some 12)) (cond (not x) (Some 12) None)
+      either true = refl
+      either false = refl
 
 -- ── the row among the checks ──
 faults : (a b c : Bool) (n : ℕ) (rest : List Check) →
@@ -55,22 +40,22 @@ module _ (o : Outcome) (reply : Reply) (first : Outcome) (n : ℕ) (rest : List 
   checks_of =
       check 10 (breaks (bad10 o) n) ∷ check 11 (breaks (bad11 reply o) n) ∷ check 12 (breaks (bad12 first o) n) ∷ rest
 
-  pub row-none : row_of o reply first ≡ 0 → first_fault checks_of ≡ first_fault rest
+  pub row-none : row_of o reply first ≡ None → first_fault checks_of ≡ first_fault rest
   row-none e = faults (bad10 o) (bad11 reply o) (bad12 first o) n rest ∙ none (bad10 o) (bad11 reply o) (bad12 first o) e
     where
-      none : (a b c : Bool) → ◌≡◌ {A = ℕ} (cond a 10 (cond b 11 (cond c 12 0))) 0 →
+      none : (a b c : Bool) → ◌≡◌ {A = Option ℕ} (cond a (Some 10) (cond b (Some 11) (cond c (Some 12) None))) None →
           cond a (verdict 10 n) (cond b (verdict 11 n) (cond c (verdict 12 n) (first_fault rest))) ≡ first_fault rest
-      none true b c e = absurd (omega arith)
-      none false true c e = absurd (omega arith)
-      none false false true e = absurd (omega arith)
+      none true b c e = clash (cc)
+      none false true c e = clash (cc)
+      none false false true e = clash (cc)
       none false false false e = refl
 
-  pub row-some : (r : ℕ) → r ≡ row_of o reply first → (r ≡ 0 → ⊥) → verdict r n ≡ first_fault checks_of
-  row-some r e z = sym (faults (bad10 o) (bad11 reply o) (bad12 first o) n rest ∙ some (bad10 o) (bad11 reply o) (bad12 first o) r e z)
+  pub row-some : (r : ℕ) → Some r ≡ row_of o reply first → verdict r n ≡ first_fault checks_of
+  row-some r e = sym (faults (bad10 o) (bad11 reply o) (bad12 first o) n rest ∙ some (bad10 o) (bad11 reply o) (bad12 first o) e)
     where
-      some : (a b c : Bool) (r : ℕ) → r ≡ cond a 10 (cond b 11 (cond c 12 0)) → (r ≡ 0 → ⊥) →
+      some : (a b c : Bool) → Some r ≡ cond a (Some 10) (cond b (Some 11) (cond c (Some 12) None)) →
           cond a (verdict 10 n) (cond b (verdict 11 n) (cond c (verdict 12 n) (first_fault rest))) ≡ verdict r n
-      some true b c r e z = ap (λ k. verdict k n) (sym e)
-      some false true c r e z = ap (λ k. verdict k n) (sym e)
-      some false false true r e z = ap (λ k. verdict k n) (sym e)
-      some false false false r e z = absurd (z e)
+      some true b c e = let z : r ≡ 10 = cc in ap (λ k. verdict k n) (sym z)
+      some false true c e = let z : r ≡ 11 = cc in ap (λ k. verdict k n) (sym z)
+      some false false true e = let z : r ≡ 12 = cc in ap (λ k. verdict k n) (sym z)
+      some false false false e = clash (cc)

@@ -1,3 +1,4 @@
-pub mod Arrays
+pub mod Held
 pub mod Judges
+pub mod Index
 pub mod Promises

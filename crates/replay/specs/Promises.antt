@@ -1,174 +1,159 @@
 -- What the private functions promise.
-use Rattle.std.specs.Prelude.{Bool, true, false, cond, ◌&&◌, List, ◌∷◌, ◌≡◌, ℕ, suc, ◌+◌, ◌*◌, ◌%◌, ◌≤◌, ◌<◌, eqb, get_or, length, replicate}
-use Rattle.basics.specs.Firsts.{firsts}
-use Rattle.basics.specs.Scans.{FirstFrom, Heads}
-use Rattle.text.specs.Formats.{most_entries, most_objects, most_ofs}
-use Rattle.text.specs.Held.{of_at, entry_at, most_items}
+use Rattle.std.specs.Prelude.{Bool, true, false, not, cond, ◌&&◌, List, [], ◌∷◌, ◌≡◌, ℕ, ◌+◌, ◌%◌, ◌≤◌, ◌<◌, eqb, get_or, length, take, Option, Some, None, Result}
+use Rattle.std.proofs.Math.Option.{none, some}
+use Rattle.std.proofs.Math.Option as Math
+use Rattle.basics.specs.Scans.{FirstFrom}
+use Rattle.text.specs.Formats.{most_entries, most_objects, most_ofs, most_programs}
+use Rattle.text.specs.Held.{of_at, most_items}
 use Rattle.text.specs.declared.programs.Instr.{Instr}
 use Rattle.text.specs.declared.programs.Program.{Program}
 use Rattle.text.specs.declared.report.Entry.{Entry}
+use Rattle.text.specs.declared.report.Of.{Of}
 use Rattle.text.specs.declared.report.Op.{Op}
 use Rattle.text.specs.declared.trace.Event.TheVariants.{Request, Response}
 use Rattle.text.specs.declared.trace.Event.{Event}
-use Rattle.model.specs.Audit.{bad10, bad11, bad12, replay_checks, row9}
-use Rattle.model.specs.Checks.{verdict, first_fault, breaks}
+use Rattle.model.specs.Audit.{same_reply, replay_checks, row9}
+use Rattle.model.specs.Batch.{Batch, Node, ev, ln}
+use Rattle.model.specs.Checks.{first_fault, breaks}
 use Rattle.model.specs.Nodes.{rid}
-use Rattle.model.specs.Batch.{Node, ev, ln}
-use Rattle.model.specs.Replay.{Reply, silent, said, Outcome, differs, ended, Answer, wrong, right, Claim, claim, compare, replay}
+use Rattle.model.specs.Replay.{Reply, silent, said, Outcome, differs, ended, Answer, wrong, right, Claim, claim, compare, replay, request_of}
+use Rattle.cells.specs.Rows.{most_cells}
 use Rattle.machine.specs.Processes.{limit}
 use Rattle.machine.specs.Instance.{Process, code_at, machine_of}
-use Rattle.cells.specs.Rows.{most_cells}
-use Rattle.machine.specs.Held.{Objects, ObjectsHeld}
-use Rattle.machine.specs.Logs.{answer_at}
+use Rattle.machine.specs.declared.objects.Objects.{Objects}
+use Rattle.machine.specs.Held.{ObjectsHeld}
+use Rattle.machine.specs.Logs.{answers_from}
 use Rattle.machine.specs.Objects.{Content}
-use Rattle.replay.specs.Arrays.{Arrays, batch_held, node_at}
-use Rattle.replay.specs.Judges.{Ready}
-use Rattle.replay.specs.declared.Fault.{Fault}
-use Rattle.replay.specs.declared.claims.Answered.{Answered}
-use Rattle.replay.specs.declared.replays.Arrival.{Arrival}
-use Rattle.replay.specs.declared.replays.Replied.{Replied}
-use Rattle.replay.specs.declared.replays.Replied.TheVariants.{Silent, Said}
-use Rattle.replay.specs.declared.replays.End.{End}
-use Rattle.replay.specs.declared.replays.End.TheVariants.{Differs, Ended}
-use Rattle.replay.specs.declared.claims.Answered.TheVariants.{Wrong, Right}
+use Rattle.replay.specs.Held.{node_at}
+use Rattle.replay.specs.Index.{Claimed}
+use Rattle.replay.specs.Judges.{Ready, verdict_of}
+use Rattle.replay.specs.declared.batch.Fault.{Fault}
+use Rattle.replay.specs.declared.lookups.Arrival.{Arrival}
+use Rattle.replay.specs.declared.lookups.Response.{Response as Reply_}
+use Rattle.replay.specs.declared.orders.Item.{Item}
+use Rattle.replay.specs.declared.orders.Items.{Items}
+use Rattle.replay.specs.declared.paths.Path.{Path}
+use Rattle.replay.specs.declared.replays.Ended.{Ended}
 
 -- ── lines by their request ──
--- whether an event is the request, the response of a rid
-abbrev pub opens : ℕ → Event → Bool
-opens r (Request q prog a b) = eqb q r
-opens r (Response q status value) = false
+abbrev pub arrival_of : List Event → ℕ → Option Arrival
+arrival_of [] r = None
+arrival_of (Request q prog a b ∷ es) r = cond (eqb q r) (Some (record { prog = prog; a = a; b = b })) (arrival_of es r)
+arrival_of (Response q status value ∷ es) r = arrival_of es r
 
-abbrev pub closes : ℕ → Event → Bool
-closes r (Request q prog a b) = false
-closes r (Response q status value) = eqb q r
-
-abbrev pub is_of : (response : Bool) → ℕ → Event → Bool
-is_of response r e = cond response (closes r e) (opens r e)
-
--- ── claims ──
--- log lines by request and number: the buckets, and the bucket of a line
-abbrev pub claim_buckets : ℕ
-claim_buckets = 1024
-
-abbrev pub bucket_of : (rid num : ℕ) → ℕ
-bucket_of r k = (r % claim_buckets * 67 + k % claim_buckets) % claim_buckets
-
-abbrev pub bucket_at : (ℕ → Entry) → ℕ → ℕ
-bucket_at line i = bucket_of (line i).rid (line i).num
-
-abbrev pub in_bucket : (ℕ → Entry) → ℕ → ℕ → Bool
-in_bucket line b i = eqb (bucket_at line i) b
-
--- of the lines from i on, the first of each bucket, and behind each line the next of its bucket
-pub record Linked (line : ℕ → Entry) (n i : ℕ) (heads afters : List ℕ) : Type 0 where
-  pub firsts_linked : Heads (bucket_at line) claim_buckets n i heads
-  pub afters_room : length afters ≡ most_entries
-  pub next : (j : ℕ) → i ≤ j → j < n → FirstFrom (in_bucket line (bucket_at line j)) (suc j) n (get_or afters j 0)
-
--- the answers of n lines, from contents at the start
-pub record AnsweredFrom (opening : ℕ → Content) (logs : List ℕ) (n : ℕ) (answers : List ℕ) : Type 0 where
-  pub answer : (i : ℕ) → i < n → get_or answers i 0 ≡ answer_at opening (entry_at logs) i
-
--- what a replay rests on, whatever it is: the programs, and contents at the start that give the answers
-pub record Setting (logs : List ℕ) (n : ℕ) (answers : List ℕ) : Type 0 where
-  pub table : List Program
-  pub opening : ℕ → Content
-  pub answered : AnsweredFrom opening logs n answers
-
--- the log, ready for replays: its lines by request and number
-pub record Prepared (logs : List ℕ) (n : ℕ) (heads afters : List ℕ) : Type 0 where
-  pub few : n ≤ most_entries
-  pub index : Linked (entry_at logs) n 0 heads afters
-
--- with the answers, from the objects that arrays hold
-pub record PreparedFrom (o : Objects) (logs : List ℕ) (n : ℕ) (heads afters answers : List ℕ) : Type 0 where
-  pub prepared : Prepared logs n heads afters
-  pub answered : (opening : ℕ → Content) → ObjectsHeld o opening → o.used + most_entries ≤ most_cells → AnsweredFrom opening logs n answers
-
--- the arrays for it, before
-pub record Blank (n : ℕ) (heads afters answers : List ℕ) : Type 0 where
-  pub few : n ≤ most_entries
-  pub none_linked : heads ≡ replicate claim_buckets most_entries
-  pub afters_room : length afters ≡ most_entries
-  pub answers_room : length answers ≡ most_entries
-
--- an operation held against the line that claims it
-abbrev pub answered_as : Answered → Answer
-answered_as Wrong = wrong
-answered_as (Right v) = right v
-
--- the claims of a request's operations
-abbrev pub claimed_in : {logs : List ℕ} {n : ℕ} {answers : List ℕ} (w : Setting logs n answers) → (rid num : ℕ) → Claim (machine_of w.table)
-claimed_in {logs} {n} w r = claim (machine_of w.table) (firsts (entry_at logs) n) w.opening r
-
-abbrev pub Answers : (logs : List ℕ) (n : ℕ) (answers : List ℕ) (rid num : ℕ) → Op → Answered → Type 0
-Answers logs n answers r k o x = (w : Setting logs n answers) → answered_as x ≡ compare (machine_of w.table) o (claimed_in w r k)
-
--- ── replays ──
 -- what a request was answered with, if it was
-abbrev pub replied_as : Replied → Reply
-replied_as Silent = silent
-replied_as (Said status value) = said status value
+abbrev pub replied_as : Option Reply_ → Reply
+replied_as None = silent
+replied_as (Some x) = said x.status x.value
 
 -- whether it was left open
 abbrev pub left_open : Reply → Bool
 left_open silent = true
 left_open (said status value) = false
 
+-- ── claims ──
+-- contents at the start that give the answers
+abbrev pub AnsweredFrom : (opening : ℕ → Content) → Claimed → Type 0
+AnsweredFrom opening c = take (length c.log) c.answers ≡ answers_from opening c.log
+
+-- what a replay rests on, whatever it is: the programs, and contents at the start that give the answers
+pub record Setting (c : Claimed) : Type 0 where
+  pub table : List Program
+  pub opening : ℕ → Content
+  pub answered : AnsweredFrom opening c
+
+-- a log with its answers, from the objects as they are
+pub record PreparedFrom (o : Objects) (log : List Entry) (c : Claimed) : Type 0 where
+  pub lines : c.log ≡ log
+  pub answered : (opening : ℕ → Content) → ObjectsHeld o opening → o.stores.used + most_entries ≤ most_cells → AnsweredFrom opening c
+
+-- an operation held against the line that claims it
+abbrev pub answered_as : Option ℕ → Answer
+answered_as None = wrong
+answered_as (Some v) = right v
+
+-- the claims of a request's operations
+abbrev pub claimed_in : {c : Claimed} (w : Setting c) → (rid num : ℕ) → Claim (machine_of w.table)
+claimed_in {c} w r = claim (machine_of w.table) c.log w.opening r
+
+abbrev pub Answers : Claimed → (rid num : ℕ) → Op → Option ℕ → Type 0
+Answers c r k o x = (w : Setting c) → answered_as x ≡ compare (machine_of w.table) o (claimed_in w r k)
+
+-- ── replays ──
 -- How many instructions a request may carry out that has done k operations in `done` instructions: no more, where it was left open behind
 -- them.
 abbrev pub most_of : (is_open : Bool) (k count done : ℕ) → ℕ
 most_of is_open k count done = cond (is_open && eqb k count) done limit
 
--- the rows of all paths: a path has no more positions than a request carries out instructions
-abbrev pub path_room : ℕ
-path_room = most_ofs * limit
+abbrev pub ended_with : Option Reply_ → (done : ℕ) → Ended
+ended_with reply done = record { reply = reply; done = done }
 
--- the path of a request: its positions stand in its row
-abbrev pub path_in : List ℕ → (base done : ℕ) → List ℕ
-path_in paths base done = firsts (λ i. get_or paths (base + i) 0) done
+abbrev pub done_in : Option Ended → ℕ
+done_in None = 0
+done_in (Some e) = e.done
 
-abbrev pub done_in : End → ℕ
-done_in Differs = 0
-done_in (Ended reply done) = done
-
--- how a replay came out, of a request of program `prog`
-abbrev pub outcome_in : (prog : ℕ) → List ℕ → (base : ℕ) → End → Outcome
-outcome_in prog paths base Differs = differs
-outcome_in prog paths base (Ended reply done) = ended (replied_as reply) (prog ∷ path_in paths base done)
+-- how a replay came out, of a request of program `prog` that carried out these positions first
+abbrev pub outcome_in : (prog : ℕ) → (positions : List ℕ) → Option Ended → Outcome
+outcome_in prog positions None = differs
+outcome_in prog positions (Some e) = ended (replied_as e.reply) (prog ∷ take e.done positions)
 
 -- the replay of a process that has `left` operations to do, the next of which has the number k
-abbrev pub replay_of : {logs : List ℕ} {n : ℕ} {answers : List ℕ} → Setting logs n answers → (rid : ℕ) → Reply → (left k : ℕ) → Process → Outcome
+abbrev pub replay_of : {c : Claimed} → Setting c → (rid : ℕ) → Reply → (left k : ℕ) → Process → Outcome
 replay_of w r reply left k p = replay (machine_of w.table) (claimed_in w r) reply left k p ((machine_of w.table).advance p)
 
 -- the replay of a request with inputs a and b, left open or not, whatever its program's number and its response
-pub record Replays (logs : List ℕ) (n : ℕ) (answers : List ℕ) (rid count a b : ℕ) (is_open : Bool) (base : ℕ) (code : List Instr)
-    (old paths : List ℕ) (end : End) : Type 0 where
-  pub room : length paths ≡ path_room
-  pub kept : (i : ℕ) → i < base → get_or paths i 0 ≡ get_or old i 0
+pub record Replays (c : Claimed) (rid count a b : ℕ) (is_open : Bool) (code : List Instr) (positions : List ℕ) (end : Option Ended) : Type 0 where
   pub few : done_in end ≤ limit
-  pub outcome : (w : Setting logs n answers) (prog : ℕ) (reply : Reply) → code_at w.table prog ≡ code → left_open reply ≡ is_open →
-      outcome_in prog paths base end ≡ replay_of w rid reply count 1 ((machine_of w.table).start prog a b)
+  pub outcome : (w : Setting c) (prog : ℕ) (reply : Reply) → code_at w.table prog ≡ code → left_open reply ≡ is_open →
+      outcome_in prog positions end ≡ replay_of w rid reply count 1 ((machine_of w.table).start prog a b)
 
 -- ── rows 10 to 12 of one request ──
--- the row that a request breaks first, 0 if none: its outcome, its response, and the outcome of the first request of its group
-abbrev pub row_of : Outcome → Reply → Outcome → ℕ
-row_of o reply first = cond (bad10 o) 10 (cond (bad11 reply o) 11 (cond (bad12 first o) 12 0))
+-- the way of a request, as the model has it
+abbrev pub way : Path → List ℕ
+way p = p.prog ∷ take p.done p.positions
 
--- the path kept for the request in a slot
-abbrev pub path_at : (progs lengths paths : List ℕ) → (slot : ℕ) → List ℕ
-path_at progs lengths paths slot = get_or progs slot 0 ∷ path_in paths (slot * limit) (get_or lengths slot 0)
+abbrev pub no_path : Path
+no_path = record { prog = 0; done = 0; positions = [] }
 
--- what an event says of its request
-abbrev pub arrival_of : Event → Arrival
-arrival_of (Request r prog a b) = record { prog = prog; a = a; b = b }
-arrival_of (Response r status value) = record { prog = 0; a = 0; b = 0 }
+abbrev pub path_at : List Path → ℕ → Path
+path_at paths k = get_or paths k no_path
 
--- the fault r is the first of rows 10 to 12
-abbrev pub JudgesRequests : List Program → Arrays → (answers : List ℕ) → Fault → Type 0
-JudgesRequests table a answers r = (known : ℕ → Bool) → Ready known (batch_held a) →
-    (opening : ℕ → Content) → AnsweredFrom opening a.logs a.n answers →
-    verdict r.row r.line ≡ first_fault (replay_checks (machine_of table) opening (batch_held a) 1 (batch_held a).ofs)
+-- none is longer than a request may go on
+abbrev pub Short : List Path → Type 0
+Short paths = (k : ℕ) → (path_at paths k).done ≤ limit
+
+-- how a replay came out, with its way
+abbrev pub outcome_by : Path → Option Ended → Outcome
+outcome_by p None = differs
+outcome_by p (Some e) = ended (replied_as e.reply) (way p)
+
+-- the replay of the request of an `of` line, which has the response `reply`
+abbrev pub replayed : (table : List Program) → Claimed → (opening : ℕ → Content) → Of → Reply → Math.Option Process → Outcome
+replayed table c opening x reply none = differs
+replayed table c opening x reply (some p) =
+    replay (machine_of table) (claim (machine_of table) c.log opening x.rid) reply x.count 1 p ((machine_of table).advance p)
+
+-- the request of a rid has a program that there may be
+abbrev pub InTable : List Event → (rid : ℕ) → Type 0
+InTable events r = (a : Arrival) → arrival_of events r ≡ Some a → a.prog < most_programs
+
+pub record ReplaysRequest (table : List Program) (events : List Event) (x : Of) (is_open : Bool) (c : Claimed) (old path : Path)
+    (end : Option Ended) : Type 0 where
+  pub few : old.done ≤ limit → path.done ≤ limit
+  pub outcome : InTable events x.rid → (opening : ℕ → Content) → AnsweredFrom opening c → (reply : Reply) → left_open reply ≡ is_open →
+      outcome_by path end ≡ replayed table c opening x reply (request_of (machine_of table) events x.rid)
+
+-- the row that a request breaks first: how its replay came out, its response, and whether its way is that of the first of its group
+abbrev pub row_by : Option Ended → Option Reply_ → (same_way : Bool) → Option ℕ
+row_by None reply same_way = Some 10
+row_by (Some e) reply same_way =
+    cond (not (same_reply (replied_as e.reply) (replied_as reply))) (Some 11) (cond same_way None (Some 12))
+
+-- r is the first fault of rows 10 to 12
+abbrev pub JudgesRequests : List Program → Batch → Claimed → Result (Unit {0}) Fault → Type 0
+JudgesRequests table b c r = (known : ℕ → Bool) → Ready known b → c.log ≡ b.log →
+    (opening : ℕ → Content) → AnsweredFrom opening c →
+    verdict_of r ≡ first_fault (replay_checks (machine_of table) opening b 1 b.ofs)
 
 -- ── items ──
 -- an item's lane and number as the arrays can hold them; c is its request's count
@@ -181,18 +166,22 @@ number_in c (ev (Request r prog a b)) = 0
 number_in c (ev (Response r status value)) = c % 65535 + 1
 number_in c (ln l) = l.num % 65536
 
-pub record ItemIs (ofs : List ℕ) (m : ℕ) (x : Node) (lane request number : ℕ) : Type 0 where
-  pub lane_is : lane ≡ lane_in x
-  pub place : FirstFrom (λ i. eqb (of_at ofs i).rid (rid x)) 0 m request
-  pub number_is : number ≡ number_in (of_at ofs request).count x
+pub record ItemIs (ofs : List Of) (x : Node) (i : Item) : Type 0 where
+  pub few : length ofs ≤ most_ofs
+  pub lane_is : i.lane ≡ lane_in x
+  pub place : FirstFrom (λ k. eqb (of_at ofs k).rid (rid x)) 0 (length ofs) i.request
+  pub number_is : i.number ≡ number_in (of_at ofs i.request).count x
+
+abbrev pub item_of : Items → ℕ → Item
+item_of x j = record { lane = get_or x.lane j 0; request = get_or x.request j 0; number = get_or x.number j 0 }
 
 -- the first i items stand in the arrays
-pub record ItemsTo (a : Arrays) (i : ℕ) (lane request number : List ℕ) : Type 0 where
-  pub lane_room : length lane ≡ most_items
-  pub request_room : length request ≡ most_items
-  pub number_room : length number ≡ most_items
-  pub items : (j : ℕ) → j < i → ItemIs a.ofs a.m (node_at a.events a.logs a.n j) (get_or lane j 0) (get_or request j 0) (get_or number j 0)
+pub record ItemsTo (b : Batch) (i : ℕ) (x : Items) : Type 0 where
+  pub lane_room : length x.lane ≡ most_items
+  pub request_room : length x.request ≡ most_items
+  pub number_room : length x.number ≡ most_items
+  pub items : (j : ℕ) → j < i → ItemIs b.ofs (node_at b j) (item_of x j)
 
 -- row 9, of a batch that is ready
-abbrev pub Returns : Arrays → Bool → Type 0
-Returns a r = (known : ℕ → Bool) → Ready known (batch_held a) → breaks r 0 ≡ row9 (batch_held a)
+abbrev pub Returns : Batch → Bool → Type 0
+Returns b r = (known : ℕ → Bool) → Ready known b → breaks r 0 ≡ row9 b

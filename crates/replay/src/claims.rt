@@ -1,18 +1,14 @@
 // The log lines that claim operations, found by request and number, and what they answer.
-ghost use Rattle.std.specs.Prelude.{◌≡◌, ◌≤◌, length, replicate};
-ghost use Rattle.basics.specs.Scans.{FirstFrom};
+ghost use Rattle.std.specs.Prelude.{◌≡◌, ◌<◌, length, position, replicate, IfSome};
 ghost use Rattle.text.specs.Formats.{most_entries};
-ghost use Rattle.text.specs.Held.{entry_at};
 ghost use Rattle.model.specs.Batch.{claims};
-ghost use Rattle.model.specs.Replay.{same_op};
-ghost use Rattle.machine.specs.Held.{objects};
-ghost use Rattle.replay.specs.Promises.{bucket_of, Linked, Blank, Prepared, PreparedFrom, Answers, claim_buckets};
+ghost use Rattle.replay.specs.Index.{Claimed, bucket_of, claim_buckets, Linked};
+ghost use Rattle.replay.specs.Promises.{PreparedFrom, Answers};
 
-use crate::limits::{CLAIM_BUCKETS, CLAIM_REMAINDERS};
-use basics::index_of;
-use cells::{BUCKETS, CELL_ROWS};
-use machine::{REGISTERS, shown};
-use text::{ENTRIES, ENTRY_ROWS, Op, entry_at};
+use crate::limits::{CLAIM_BUCKETS, CLAIM_REMAINDERS, NO_LINE};
+use machine::{Objects, shown};
+use std::marker::Model;
+use text::{ENTRIES, Log, Op};
 
 fn bucket(rid: u64, num: u64) -> usize
     ensures { result ≡ bucket_of rid num }
@@ -20,121 +16,77 @@ fn bucket(rid: u64, num: u64) -> usize
     ((rid % CLAIM_REMAINDERS * 67 + num % CLAIM_REMAINDERS) % CLAIM_REMAINDERS) as usize
 }
 
-// Links the first n lines bucket by bucket, in one pass from the back, so that each chain goes downward in the report.
-pub(crate) fn link_lines(
-    logs: &[u64; ENTRY_ROWS],
-    n: usize,
-    heads: &mut [u16; CLAIM_BUCKETS],
-    afters: &mut [u16; ENTRIES],
-)
-    requires { (n ≤ most_entries) × (heads.old ≡ replicate claim_buckets most_entries) × (length afters.old ≡ most_entries) }
-    ensures { Linked (entry_at logs.now) n 0 heads.new afters.new }
+// A log with the first line of each bucket, the next line of its bucket behind each line, and the answers of all lines. Nothing is allocated,
+// so a chain is led by indices.
+#[derive(Drop)]
+pub(crate) struct Claims<'a> {
+    log: &'a Log,
+    heads: [u16; CLAIM_BUCKETS],
+    afters: [u16; ENTRIES],
+    answers: [u64; ENTRIES],
+}
+
+impl<'a> Model for Claims<'a> {
+    ghost Value = { Claimed };
+
+    ghost view = { λ c. record { log = c.log.now.items; answers = c.answers } };
+
+    ghost invariant = { λ c. Linked c.log.now.items c.heads c.afters };
+}
+
+// Links the lines bucket by bucket, in one pass from the back, so that each chain goes downward in the report.
+fn link(log: &Log, heads: &mut [u16; CLAIM_BUCKETS], afters: &mut [u16; ENTRIES])
+    requires { heads.old ≡ replicate claim_buckets most_entries }
+    ensures { Linked log.now.items heads.new afters.new }
 {
-    let mut i: usize = n;
-    while 0 < i {
-        i -= 1;
-        let x = entry_at(logs, i);
-        let b = bucket(x.rid, x.num);
-        let h = heads[b];
-        afters[i] = h;
+    // i is what is kept.
+    for i in (0..log.len()).rev() {
+        let b = bucket(log[i].rid, log[i].num);
+        afters[i] = heads[b];
         heads[b] = i as u16;
     }
 }
 
-fn is_claim(logs: &[u64; ENTRY_ROWS], i: usize, rid: u64, num: u64) -> bool
-    ensures { result ≡ claims rid num (entry_at logs.now i) }
-{
-    let x = entry_at(logs, i);
-    if x.rid == rid { x.num == num } else { false }
-}
-
-// The line that claims an operation, or n.
-pub(crate) fn claim_at(
-    logs: &[u64; ENTRY_ROWS],
-    n: usize,
-    heads: &[u16; CLAIM_BUCKETS],
-    afters: &[u16; ENTRIES],
-    rid: u64,
-    num: u64,
-) -> usize
-    requires { (n ≤ most_entries) × Linked (entry_at logs.now) n 0 heads.now afters.now }
-    ensures { FirstFrom (λ i. claims rid num (entry_at logs.now i)) 0 n result }
-{
-    let mut j = index_of(heads[bucket(rid, num)]);
-    while j < n {
-        if is_claim(logs, j, rid, num) {
-            return j;
+impl<'a> Claims<'a> {
+    // The lines linked, and their answers from the objects as they are.
+    pub fn new(log: &'a Log, objects: &mut Objects) -> Claims<'a>
+        ensures { PreparedFrom objects.old log.now.items result }
+    {
+        let mut heads = [NO_LINE; CLAIM_BUCKETS];
+        let mut afters = [0; ENTRIES];
+        let mut answers = [0; ENTRIES];
+        link(log, &mut heads, &mut afters);
+        objects.answers(log, &mut answers);
+        Claims {
+            log,
+            heads,
+            afters,
+            answers,
         }
-        j = index_of(afters[j]);
     }
-    n
-}
 
-fn same_op(a: Op, b: Op) -> bool
-    ensures { result ≡ same_op a b }
-{
-    if a.object != b.object {
-        return false;
+    // The line that claims an operation.
+    pub fn line_of(&self, rid: u64, num: u64) -> Option<usize>
+        ensures line { result ≡ position (claims rid num) self.now.log }
+        ensures within { IfSome result (λ i. (i < length self.now.log) × (i < most_entries)) }
+    {
+        let mut j = usize::from(self.heads[bucket(rid, num)]);
+        // A chain, whose lines stand in no slice.
+        while let Some(entry) = self.log.get(j) {
+            if entry.rid == rid && entry.num == num {
+                return Some(j);
+            }
+            j = usize::from(self.afters[j]);
+        }
+        None
     }
-    if a.kind != b.kind {
-        return false;
-    }
-    if a.key != b.key {
-        return false;
-    }
-    a.value == b.value
-}
 
-// An operation held against the line that claims it: not the same, or its answer.
-#[derive(Drop)]
-pub enum Answered {
-    Wrong,
-    Right(u64),
-}
-
-// Operation num of a request, which is o.
-pub(crate) fn answer_of(
-    logs: &[u64; ENTRY_ROWS],
-    n: usize,
-    heads: &[u16; CLAIM_BUCKETS],
-    afters: &[u16; ENTRIES],
-    answers: &[u64; ENTRIES],
-    rid: u64,
-    num: u64,
-    o: Op,
-) -> Answered
-    requires { Prepared logs.now n heads.now afters.now }
-    ensures { Answers logs.now n answers.now rid num o result }
-{
-    let i = claim_at(logs, n, heads, afters, rid, num);
-    if n <= i {
-        return Answered::Wrong;
+    // Operation num of a request, which is o, held against the line that claims it: its answer, if it is the same.
+    pub fn answer_of(&self, rid: u64, num: u64, o: Op) -> Option<u64>
+        ensures { Answers self.now rid num o result }
+    {
+        let i = self.line_of(rid, num)?;
+        let v = self.answers[i];
+        (self.log[i].op == shown(o, v)).then_some(v)
     }
-    let x = entry_at(logs, i);
-    let v = answers[i];
-    if same_op(x.op, shown(o, v)) {
-        Answered::Right(v)
-    } else {
-        Answered::Wrong
-    }
-}
-
-// Links the lines, and has their answers, from the objects that the other arrays hold.
-pub(crate) fn prepare(
-    logs: &[u64; ENTRY_ROWS],
-    n: usize,
-    registers: &mut [u64; REGISTERS],
-    cells: &mut [u64; CELL_ROWS],
-    buckets: &mut [u16; BUCKETS],
-    used: usize,
-    heads: &mut [u16; CLAIM_BUCKETS],
-    afters: &mut [u16; ENTRIES],
-    answers: &mut [u64; ENTRIES],
-)
-    requires { Blank n heads.old afters.old answers.old }
-    ensures { PreparedFrom (objects registers.old cells.old buckets.old used)
-        logs.now n heads.new afters.new answers.new }
-{
-    link_lines(logs, n, heads, afters);
-    machine::answers(logs, n, registers, cells, buckets, used, answers);
 }

@@ -1,48 +1,60 @@
-// Lines looked up by their request or group: the first that fits, or the number of lines where none does.
-ghost use Rattle.std.specs.Prelude.{◌≡◌, eqb};
-ghost use Rattle.basics.specs.Scans.{FirstFrom};
-ghost use Rattle.text.specs.Held.{event_at, of_at};
-ghost use Rattle.replay.specs.Promises.{is_of};
+// Lines looked up by their request or group. A search that takes fields out of an event is a loop: `find_map` would hold the same match.
+ghost use Rattle.std.specs.Prelude.{◌≡◌, ◌==◌, position};
+ghost use Rattle.model.specs.Replay.{response_of};
+ghost use Rattle.replay.specs.Promises.{replied_as, arrival_of};
 
-use text::{EVENT_ROWS, Event, OF_ROWS, event_at, of_at};
+use text::{Event, Of};
 
-// Whether an event is the response of a rid, or its request.
-fn is_of(e: Event, rid: u64, response: bool) -> bool
-    ensures { result ≡ is_of response rid e }
-{
-    match e {
-        Event::Request { rid: q, .. } => { if response { false } else { q == rid } }
-        Event::Response { rid: q, .. } => { if response { q == rid } else { false } }
-    }
+// A request as it arrives.
+#[derive(Clone, Copy, Debug, PartialEq, Eq)]
+pub(crate) struct Arrival {
+    pub prog: u64,
+    pub a: u64,
+    pub b: u64,
 }
 
-// The `response` line of a rid, or its `request` line.
-pub(crate) fn event_of(events: &[u64; EVENT_ROWS], t: usize, rid: u64, response: bool) -> usize
-    ensures { FirstFrom (λ i. is_of response rid (event_at events.now i)) 0 t result }
-{
-    let mut i: usize = 0;
-    while i < t {
-        if is_of(event_at(events, i), rid, response) {
-            return i;
-        }
-        i += 1;
-    }
-    t
+// What a request was answered with.
+#[derive(Clone, Copy, Debug, PartialEq, Eq)]
+pub(crate) struct Response {
+    pub status: u64,
+    pub value: u64,
 }
 
-// The first `of` line of the group that line k has.
-pub(crate) fn first_of_group(ofs: &[u64; OF_ROWS], m: usize, k: usize) -> usize
-    ensures { FirstFrom (λ i. eqb (of_at ofs.now i).group (of_at ofs.now k).group) 0 m result }
+// The `request` line of a rid.
+pub(crate) fn arrival_of(events: &[Event], rid: u64) -> Option<Arrival>
+    ensures { result ≡ arrival_of events.now rid }
 {
-    let own = of_at(ofs, k);
-    let group = own.group;
-    let mut i: usize = 0;
-    while i < m {
-        let x = of_at(ofs, i);
-        if x.group == group {
-            return i;
+    for event in events {
+        match *event {
+            Event::Request { rid: q, prog, a, b } if q == rid => {
+                return Some(Arrival { prog, a, b });
+            }
+            _ => {}
         }
-        i += 1;
     }
-    m
+    None
+}
+
+// The `response` line of a rid.
+pub(crate) fn response_of(events: &[Event], rid: u64) -> Option<Response>
+    ensures { replied_as result ≡ response_of events.now rid }
+{
+    for event in events {
+        match *event {
+            Event::Response {
+                rid: q,
+                status,
+                value,
+            } if q == rid => return Some(Response { status, value }),
+            _ => {}
+        }
+    }
+    None
+}
+
+// The first `of` line of a group.
+pub(crate) fn first_of_group(ofs: &[Of], group: u64) -> Option<usize>
+    ensures { result ≡ position (λ x. x.group == group) ofs.now }
+{
+    ofs.iter().position(|x| x.group == group)
 }

@@ -1,141 +1,101 @@
 // Row 9: the items of a batch for the merge, log lines first and then trace events, their order, and whether the merge leaves something.
-ghost use Rattle.std.specs.Prelude.{◌≡◌, ◌≤◌, ◌<◌, ◌+◌, length};
-ghost use Rattle.text.specs.Formats.{most_entries, most_ofs};
-ghost use Rattle.text.specs.Held.{most_events, most_items};
-ghost use Rattle.text.specs.Slots.{Slots};
+ghost use Rattle.std.specs.Prelude.{◌≡◌, ◌+◌, ◌<◌, length};
+ghost use Rattle.text.specs.Slots.{Slots as FirstSlots};
 ghost use Rattle.model.specs.Batch.{ev, ln};
-ghost use Rattle.replay.specs.Arrays.{arrays, node_at};
+ghost use Rattle.replay.specs.Held.{batch_held, node_at};
 ghost use Rattle.replay.specs.Judges.{Orders};
 ghost use Rattle.replay.specs.Promises.{ItemIs, ItemsTo, Returns};
 
-use text::{
-    ENTRY_ROWS, EVENT_ROWS, Entry, Event, ITEMS, OBJECTS, OF_ROWS, SLOT_BUCKETS, entry_at,
-    event_at, first_slots, of_at, slot_of,
-};
+use crate::batch::Batch;
+use text::{Entry, Event, ITEMS, OBJECTS, Ofs, Slots};
 
 // An item's lane (0 the trace, 1 + object), the slot of its request, and its number there.
-#[derive(Drop)]
-pub struct Item {
+#[derive(Clone, Copy)]
+pub(crate) struct Item {
     pub lane: u8,
     pub request: u8,
     pub number: u16,
 }
 
-fn line_item(ofs: &[u64; OF_ROWS], m: usize, heads: &[u8; SLOT_BUCKETS], x: Entry) -> Item
-    requires { (m ≤ most_ofs) × Slots ofs.now m heads.now }
-    ensures { ItemIs ofs.now m (ln x) result.lane result.request result.number }
+// The items as the merge takes them: three slices, so these are three arrays and none of items.
+#[derive(Drop)]
+pub(crate) struct Items {
+    pub lane: [u8; ITEMS],
+    pub request: [u8; ITEMS],
+    pub number: [u16; ITEMS],
+}
+
+fn line_item(ofs: &Ofs, slots: &Slots, x: Entry) -> Item
+    requires { FirstSlots ofs.now.items slots.now.heads }
+    ensures { ItemIs ofs.now.items (ln x) result }
 {
-    let s = slot_of(ofs, m, heads, x.rid);
-    let o = x.op;
     Item {
-        lane: (o.object % OBJECTS + 1) as u8,
-        request: s as u8,
+        lane: (x.op.object % OBJECTS + 1) as u8,
+        request: slots.slot_of(ofs, x.rid) as u8,
         number: (x.num % 65536) as u16,
     }
 }
 
-fn event_item(ofs: &[u64; OF_ROWS], m: usize, heads: &[u8; SLOT_BUCKETS], x: Event) -> Item
-    requires { (m ≤ most_ofs) × Slots ofs.now m heads.now }
-    ensures { ItemIs ofs.now m (ev x) result.lane result.request result.number }
+fn event_item(ofs: &Ofs, slots: &Slots, x: Event) -> Item
+    requires { FirstSlots ofs.now.items slots.now.heads }
+    ensures { ItemIs ofs.now.items (ev x) result }
 {
     match x {
-        Event::Request { rid, .. } => {
-            let s = slot_of(ofs, m, heads, rid);
-            Item {
-                lane: 0,
-                request: s as u8,
-                number: 0,
-            }
-        }
+        Event::Request { rid, .. } => Item {
+            lane: 0,
+            request: slots.slot_of(ofs, rid) as u8,
+            number: 0,
+        },
         Event::Response { rid, .. } => {
-            let s = slot_of(ofs, m, heads, rid);
-            let y = of_at(ofs, s);
+            let s = slots.slot_of(ofs, rid);
+            let count = ofs.get(s).map_or(0, |of| of.count);
             Item {
                 lane: 0,
                 request: s as u8,
-                number: (y.count % 65535 + 1) as u16,
+                number: (count % 65535 + 1) as u16,
             }
         }
     }
 }
 
 // Item i: log line i, or an event.
-fn item_at(
-    events: &[u64; EVENT_ROWS],
-    ofs: &[u64; OF_ROWS],
-    m: usize,
-    heads: &[u8; SLOT_BUCKETS],
-    logs: &[u64; ENTRY_ROWS],
-    n: usize,
-    i: usize,
-) -> Item
-    requires { (m ≤ most_ofs) × Slots ofs.now m heads.now }
-    ensures { ItemIs ofs.now m (node_at events.now logs.now n i)
-        result.lane result.request result.number }
+fn item_at(batch: Batch, slots: &Slots, i: usize) -> Item
+    requires slots { FirstSlots batch.ofs.now.items slots.now.heads }
+    requires within { i < length batch.log.now.items + length batch.events.now.items }
+    ensures { ItemIs (batch_held batch.entry).ofs (node_at (batch_held batch.entry) i) result }
 {
-    if i < n {
-        line_item(ofs, m, heads, entry_at(logs, i))
-    } else {
-        event_item(ofs, m, heads, event_at(events, i - n))
+    match batch.log.get(i) {
+        Some(line) => line_item(batch.ofs, slots, *line),
+        None => event_item(batch.ofs, slots, batch.events[i - batch.log.len()]),
     }
 }
 
-// The items, written to the front of the three arrays.
-fn put_items(
-    events: &[u64; EVENT_ROWS],
-    t: usize,
-    ofs: &[u64; OF_ROWS],
-    m: usize,
-    logs: &[u64; ENTRY_ROWS],
-    n: usize,
-    lane: &mut [u8; ITEMS],
-    request: &mut [u8; ITEMS],
-    number: &mut [u16; ITEMS],
-)
-    requires { (t ≤ most_events) × (m ≤ most_ofs) × (n ≤ most_entries)
-        × (length lane.old ≡ most_items) × (length request.old ≡ most_items) × (length number.old ≡ most_items) }
-    ensures { ItemsTo (arrays events.now t ofs.now m logs.now n) (n + t)
-        lane.new request.new number.new }
+// The items, to the front of the arrays.
+fn put_items(batch: Batch, items: &mut Items)
+    ensures { ItemsTo (batch_held batch.entry) (length (batch_held batch.entry).log + length (batch_held batch.entry).trace) items.new }
 {
-    let heads = first_slots(ofs, m);
-    let mut i: usize = 0;
-    while i < n + t {
-        let x = item_at(events, ofs, m, &heads, logs, n, i);
-        lane[i] = x.lane;
-        request[i] = x.request;
-        number[i] = x.number;
-        i += 1;
+    let slots = Slots::of(batch.ofs);
+    // i goes through log lines and events, and is a place in the three arrays.
+    for i in 0..batch.log.len() + batch.events.len() {
+        let x = item_at(batch, &slots, i);
+        items.lane[i] = x.lane;
+        items.request[i] = x.request;
+        items.number[i] = x.number;
     }
 }
 
 // The order of the items, as places, to the front of `order`, and whether it returns to itself: the merge leaves something over.
-pub(crate) fn put_order(
-    events: &[u64; EVENT_ROWS],
-    t: usize,
-    ofs: &[u64; OF_ROWS],
-    m: usize,
-    logs: &[u64; ENTRY_ROWS],
-    n: usize,
-    order: &mut [u16; ITEMS],
-) -> bool
-    requires { (t ≤ most_events) × (m ≤ most_ofs) × (n ≤ most_entries) × (length order.old ≡ most_items) }
-    ensures returns { Returns (arrays events.now t ofs.now m logs.now n) result }
-    ensures order { Orders (arrays events.now t ofs.now m logs.now n) order.new }
+pub(crate) fn put_order(batch: Batch, order: &mut [u16; ITEMS]) -> bool
+    ensures returns { Returns (batch_held batch.entry) result }
+    ensures order { Orders (batch_held batch.entry) order.new }
 {
-    let mut lane = [0u8; ITEMS];
-    let mut request = [0u8; ITEMS];
-    let mut number = [0u16; ITEMS];
-    put_items(
-        events,
-        t,
-        ofs,
-        m,
-        logs,
-        n,
-        &mut lane,
-        &mut request,
-        &mut number,
-    );
-    let merged = ordering::merge(&lane[..n + t], &request, &number, order);
+    let mut items = Items {
+        lane: [0; ITEMS],
+        request: [0; ITEMS],
+        number: [0; ITEMS],
+    };
+    put_items(batch, &mut items);
+    let count = batch.log.len() + batch.events.len();
+    let merged = ordering::merge(&items.lane[..count], &items.request, &items.number, order);
     merged.left != 0
 }

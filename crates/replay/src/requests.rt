@@ -1,203 +1,74 @@
 // Rows 10 to 12: each request replayed by itself, in arrival order.
-ghost use Rattle.std.specs.Prelude.{◌≡◌, ◌*◌, ◌≤◌, ◌<◌, get_or};
-ghost use Rattle.basics.specs.Firsts.{firsts};
-ghost use Rattle.text.specs.Formats.{most_ofs};
-ghost use Rattle.text.specs.Held.{event_at};
-ghost use Rattle.model.specs.Audit.{same_reply, same_path};
-ghost use Rattle.model.specs.Replay.{silent, response_of, ended};
-ghost use Rattle.machine.specs.Processes.{limit};
-ghost use Rattle.replay.specs.Arrays.{arrays};
-ghost use Rattle.replay.specs.Promises.{
-  path_in,
-  outcome_in,
-  done_in,
-  row_of,
-  path_at,
-  arrival_of,
-  replied_as,
-  left_open,
-  Prepared,
-  JudgesRequests,
-};
+ghost use Rattle.std.specs.Prelude.{◌≡◌, ◌≢◌, IfErr};
+ghost use Rattle.replay.specs.Held.{batch_held};
+ghost use Rattle.replay.specs.Promises.{row_by, ReplaysRequest, JudgesRequests};
 
-use crate::Fault;
-use crate::limits::{CLAIM_BUCKETS, PATH_ROW, PATH_ROWS};
-use crate::lookups::{event_of, first_of_group};
-use crate::replays::{Arrival, End, Replied, replay};
-use text::{
-    ENTRIES, ENTRY_ROWS, EVENT_ROWS, Event, OF_ROWS, OFS, PROGRAM_NUMBERS, Programs, event_at,
-    of_at,
-};
+use crate::batch::{Batch, Fault};
+use crate::claims::Claims;
+use crate::lookups::{Response, arrival_of, first_of_group, response_of};
+use crate::paths::{Path, same_way};
+use crate::replays::{Ended, replay};
+use text::{Event, OFS, Of, PROGRAM_NUMBERS, Programs};
 
-fn arrival_at(events: &[u64; EVENT_ROWS], i: usize) -> Arrival
-    ensures { result ≡ arrival_of (event_at events.now i) }
+// The request of an `of` line, left open or not. Its way goes to `path`.
+fn replay_request(
+    ps: &Programs,
+    events: &[Event],
+    x: Of,
+    is_open: bool,
+    claims: &Claims,
+    path: &mut Path,
+) -> Option<Ended>
+    ensures { ReplaysRequest ps.now.table events.now x is_open claims.now path.old path.new result }
 {
-    match event_at(events, i) {
-        Event::Request { prog, a, b, .. } => Arrival { prog, a, b },
-        Event::Response { .. } => Arrival {
-            prog: 0,
-            a: 0,
-            b: 0,
-        },
-    }
+    let start = arrival_of(events, x.rid)?;
+    let program = &ps.table[(start.prog % PROGRAM_NUMBERS) as usize];
+    path.prog = start.prog;
+    let ended = replay(
+        &program.code,
+        start,
+        x,
+        is_open,
+        claims,
+        &mut path.positions,
+    )?;
+    path.done = ended.done;
+    Some(ended)
 }
 
-// What the trace has for a request: its response, or nothing.
-fn response_of(events: &[u64; EVENT_ROWS], t: usize, rid: u64) -> Replied
-    ensures { replied_as result ≡ response_of (firsts (event_at events.now) t) rid }
-{
-    let i = event_of(events, t, rid, true);
-    if t <= i {
-        return Replied::Silent;
-    }
-    match event_at(events, i) {
-        Event::Request { .. } => Replied::Silent,
-        Event::Response { status, value, .. } => Replied::Said(status, value),
-    }
-}
-
-// Whether a request was left open.
-fn left_open(reply: Replied) -> bool
-    ensures { result ≡ left_open (replied_as reply) }
-{
-    match reply {
-        Replied::Silent => true,
-        Replied::Said(_, _) => false,
-    }
-}
-
-fn same_reply(x: Replied, y: Replied) -> bool
-    ensures { result ≡ same_reply (replied_as x) (replied_as y) }
-{
-    match x {
-        Replied::Silent => left_open(y),
-        Replied::Said(status, value) => match y {
-            Replied::Silent => false,
-            Replied::Said(s, v) => { if status == s { value == v } else { false } }
-        },
-    }
-}
-
-fn done_of(e: End) -> usize
-    ensures { result ≡ done_in e }
-{
-    match e {
-        End::Differs => 0,
-        End::Ended(_, done) => done,
-    }
-}
-
-// The first `done` positions of two rows are the same.
-fn same_path(paths: &[u8; PATH_ROWS], j: usize, k: usize, done: usize) -> bool
-    requires { (j < most_ofs) × (k < most_ofs) × (done ≤ limit) }
-    ensures { result ≡ same_path (path_in paths.now (j * limit) done) (path_in paths.now (k * limit) done) }
-{
-    let mut i: usize = 0;
-    while i < done {
-        if paths[j * PATH_ROW + i] != paths[k * PATH_ROW + i] {
-            return false;
-        }
-        i += 1;
-    }
-    true
-}
-
-// The path kept for the request in slot k is that of the one in slot f, which most often is itself.
-fn along(
-    progs: &[u64; OFS],
-    lengths: &[usize; OFS],
-    paths: &[u8; PATH_ROWS],
-    k: usize,
-    f: usize,
-) -> bool
-    requires { (k < most_ofs) × (f < most_ofs) × (get_or lengths.now k 0 ≤ limit) }
-    ensures { result ≡ same_path (path_at progs.now lengths.now paths.now k)
-        (path_at progs.now lengths.now paths.now f) }
-{
-    if k == f {
-        return true;
-    }
-    if progs[k] != progs[f] {
-        return false;
-    }
-    let done = lengths[k];
-    if lengths[f] != done {
-        return false;
-    }
-    same_path(paths, k, f, done)
-}
-
-// The row that the request in slot k breaks first, 0 if none. The first request of its group is in slot f.
-fn row_of(
-    end: End,
-    reply: Replied,
-    progs: &[u64; OFS],
-    lengths: &[usize; OFS],
-    paths: &[u8; PATH_ROWS],
-    k: usize,
-    f: usize,
-) -> u64
-    requires { (k < most_ofs) × (f < most_ofs) × (get_or lengths.now k 0 ≡ done_in end) × (done_in end ≤ limit) }
-    ensures { result ≡ row_of (outcome_in (get_or progs.now k 0) paths.now (k * limit) end)
-        (replied_as reply) (ended silent (path_at progs.now lengths.now paths.now f)) }
+// The row that a request breaks first: how its replay came out, its response, and whether its way is that of the first of its group. A number,
+// as `Fault` has it.
+fn row_of(end: Option<Ended>, reply: Option<Response>, same_way: bool) -> Option<u64>
+    ensures { result ≡ row_by end reply same_way }
 {
     match end {
-        End::Differs => 10,
-        End::Ended(own, _) => {
-            if !same_reply(own, reply) {
-                return 11;
-            }
-            if along(progs, lengths, paths, k, f) {
-                0
-            } else {
-                12
-            }
-        }
+        None => Some(10),
+        Some(ended) if ended.reply != reply => Some(11),
+        Some(_) if !same_way => Some(12),
+        Some(_) => None,
     }
 }
 
-// The first fault of rows 10 to 12. A path is kept in its request's row of `paths`.
-pub(crate) fn judge_requests(
-    ps: Programs,
-    events: &[u64; EVENT_ROWS],
-    t: usize,
-    ofs: &[u64; OF_ROWS],
-    m: usize,
-    logs: &[u64; ENTRY_ROWS],
-    n: usize,
-    heads: &[u16; CLAIM_BUCKETS],
-    afters: &[u16; ENTRIES],
-    answers: &[u64; ENTRIES],
-) -> Fault
-    requires { (m ≤ most_ofs) × Prepared logs.now n heads.now afters.now }
-    ensures { JudgesRequests ps.table (arrays events.now t ofs.now m logs.now n)
-        answers.now result }
+// The first fault of rows 10 to 12.
+pub(crate) fn judge_requests(ps: &Programs, batch: Batch, claims: &Claims) -> Result<(), Fault>
+    ensures judges { JudgesRequests ps.now.table (batch_held batch.entry) claims.now result }
+    ensures refuses { IfErr result (λ f. f.row ≢ 0) }
 {
-    let mut paths = [0u8; PATH_ROWS];
-    let mut lengths = [0usize; OFS];
-    let mut progs = [0u64; OFS];
-    let mut k: usize = 0;
-    while k < m {
-        let f = first_of_group(ofs, m, k);
-        let x = of_at(ofs, k);
-        let start = arrival_at(events, event_of(events, t, x.rid, false));
-        let reply = response_of(events, t, x.rid);
-        let is_open = left_open(reply);
-        let prog = start.prog;
-        let p = ps.table[(prog % PROGRAM_NUMBERS) as usize];
-        let end = replay(
-            p, start, x, is_open, k, logs, n, heads, afters, answers, &mut paths,
-        );
-        progs[k] = prog;
-        lengths[k] = done_of(end);
-        let row = row_of(end, reply, &progs, &lengths, &paths, k, f);
-        if row != 0 {
-            return Fault {
+    let events = batch.events.as_slice();
+    let ofs = batch.ofs.as_slice();
+    let mut paths = [Path::NONE; OFS];
+    for (k, of) in ofs.iter().enumerate() {
+        let f = first_of_group(ofs, of.group).unwrap_or(k);
+        let x = *of;
+        let reply = response_of(events, x.rid);
+        let is_open = reply.is_none();
+        let end = replay_request(ps, events, x, is_open, claims, &mut paths[k]);
+        if let Some(row) = row_of(end, reply, same_way(&paths, k, f)) {
+            return Err(Fault {
                 row,
                 line: (k + 1) as u64,
-            };
+            });
         }
-        k += 1;
     }
-    Fault { row: 0, line: 0 }
+    Ok(())
 }

@@ -1,4 +1,4 @@
-// Rows 4, 6 and 7 of the audit, on a trace and a report that stand in arrays.
+// Rows 4, 6 and 7 of the audit, on a trace and a report that were read.
 #![tactic(auto)]
 
 mod reports;

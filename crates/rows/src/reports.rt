@@ -1,207 +1,140 @@
 // Rows 6 and 7, over a trace and a report that were read.
-ghost use Rattle.std.specs.Prelude.{◌≡◌, [], ◌+◌, ◌<◌, ◌≤◌, min, length, get_or};
-ghost use Rattle.basics.specs.Firsts.{firsts};
-ghost use Rattle.text.specs.Formats.{most_entries, most_ofs};
-ghost use Rattle.text.specs.Held.{event_at, of_at, entry_at, report_of};
-ghost use Rattle.text.specs.Slots.{Slots};
+ghost use Rattle.std.specs.Prelude.{◌≡◌, ◌≤◌, ◌==◌, false, [], map, length, take};
+ghost use Rattle.std.specs.List.{list_any};
+ghost use Rattle.text.specs.Held.{report_of};
+ghost use Rattle.text.specs.Slots.{Slots as FirstSlots};
 ghost use Rattle.model.specs.Requests.{row6_from};
 ghost use Rattle.model.specs.Claims.{row7};
 ghost use Rattle.model.specs.Batch.{claims, batch_of};
 ghost use Rattle.machine.specs.Rules.{broken_line};
-ghost use Rattle.rows.specs.Steps.{beyond, packed, Packed, occurs, Without, reported, claim_block};
+ghost use Rattle.rows.specs.Steps.{beyond, packed, packed_claim};
 
-use basics::least;
-use machine::Ruling;
-use text::{
-    ENTRIES, ENTRY_ROWS, EVENT_ROWS, Event, OF_ROWS, OFS, RIDS, SLOT_BUCKETS, entry_at, event_at,
-    first_slots, of_at, slot_of,
-};
+use arrayvec::ArrayVec;
+use text::{BadLine, ENTRIES, Entry, Event, Log, Of, Ofs, RIDS, Slots};
 
 // Row 6: `of` lines are not one per request in arrival order.
-pub fn row_6(events: &[u64; EVENT_ROWS], t: usize, ofs: &[u64; OF_ROWS], m: usize) -> Ruling
-    ensures { broken_line result ≡ row6_from 1 (firsts (event_at events.now) t) (firsts (of_at ofs.now) m) }
+pub fn row_6(events: &[Event], ofs: &[Of]) -> Result<(), BadLine>
+    ensures { broken_line result ≡ row6_from 1 events.now ofs.now }
 {
-    let mut i: usize = 0;
+    // j counts the requests, among which responses stand.
     let mut j: usize = 0;
-    'lines: while i < t {
-        match event_at(events, i) {
-            Event::Request {
-                rid,
-                prog: _,
-                a: _,
-                b: _,
-            } => {
-                if m <= j {
-                    break 'lines;
-                }
-                let x = of_at(ofs, j);
-                if x.rid != rid {
-                    break 'lines;
+    'lines: {
+        for event in events {
+            if let Event::Request { rid, .. } = *event {
+                if ofs.get(j).is_none_or(|x| x.rid != rid) {
+                    break 'lines Err(BadLine { line: j + 1 });
                 }
                 j += 1;
-                i += 1;
-            }
-            Event::Response {
-                rid: _,
-                status: _,
-                value: _,
-            } => {
-                i += 1;
             }
         }
+        if j < ofs.len() {
+            break 'lines Err(BadLine { line: j + 1 });
+        }
+        Ok(())
     }
-    if i < t {
-        return Ruling::Broken(j + 1);
-    }
-    if j < m {
-        return Ruling::Broken(j + 1);
-    }
-    Ruling::Kept
 }
 
 // Whether no count allows operation num of request rid: the rid is unknown, or num is 0 or above its count.
-fn outside(ofs: &[u64; OF_ROWS], m: usize, heads: &[u8; SLOT_BUCKETS], rid: u64, num: u64) -> bool
-    requires { Slots ofs.now m heads.now }
-    ensures { result ≡ beyond (firsts (of_at ofs.now) m) rid num }
+fn outside(ofs: &[Of], slots: &Slots, rid: u64, num: u64) -> bool
+    requires { FirstSlots ofs.now slots.now.heads }
+    ensures { result ≡ beyond ofs.now rid num }
 {
-    let s = slot_of(ofs, m, heads, rid);
-    if m <= s {
+    let s = slots.slot_of(ofs, rid);
+    if s == ofs.len() {
         return true;
     }
-    if num == 0 {
-        return true;
-    }
-    let x = of_at(ofs, s);
-    x.count < num
+    num == 0 || ofs[s].count < num
 }
 
-// A claim in one number: exact where rid and num are in their ranges, so that most lines are told apart by one comparison.
+// A claim in one number: exact where rid and num are in their ranges, so that most lines are told apart by one comparison. (No From narrows to
+// u32.)
 fn pack(rid: u64, num: u64) -> u32
     ensures { result ≡ packed rid num }
 {
     (rid % RIDS * 512 + num % 512) as u32
 }
 
-// The claims of the first n log lines.
-fn pack_claims(logs: &[u64; ENTRY_ROWS], n: usize, column: &mut [u32; ENTRIES])
-    requires { (n ≤ most_entries) × (length column.old ≡ most_entries) }
-    ensures { Packed logs.now n column.new }
+// The claims of all log lines.
+fn pack_claims(log: &Log) -> ArrayVec<u32, ENTRIES>
+    ensures { result.items ≡ map packed_claim log.now.items }
 {
-    let mut i: usize = 0;
-    while i < n {
-        let l = entry_at(logs, i);
-        let p = pack(l.rid, l.num);
-        column[i] = p;
-        i += 1;
+    let mut column = ArrayVec::new();
+    for entry in log.iter() {
+        column.push(pack(entry.rid, entry.num));
     }
+    column
 }
 
-// Whether log line j claims operation num of request rid, where p is that claim packed.
-fn claims_at(
-    logs: &[u64; ENTRY_ROWS],
-    column: &[u32; ENTRIES],
-    j: usize,
-    p: u32,
-    rid: u64,
-    num: u64,
-) -> bool
-    requires j_lt_most_entries { j < most_entries }
-    requires j_value { get_or column.now j 0 ≡ packed (entry_at logs.now j).rid (entry_at logs.now j).num }
-    requires p_value { p ≡ packed rid num }
-    ensures { result ≡ claims rid num (entry_at logs.now j) }
+// Whether a log line claims operation num of request rid.
+fn claims(entry: Entry, rid: u64, num: u64) -> bool
+    ensures { result ≡ claims rid num entry }
 {
-    if column[j] != p {
-        return false;
-    }
-    let l = entry_at(logs, j);
-    if l.rid == rid { l.num == num } else { false }
+    entry.rid == rid && entry.num == num
 }
 
 // Claims are looked through block by block.
 const CLAIM_BLOCK: usize = 16;
 
-// Whether one of the block of claims from j on is p. No branch parts them, so that four are compared at a time.
-fn among(column: &[u32; ENTRIES], j: usize, p: u32) -> bool
-    requires { j + claim_block ≤ most_entries }
-    ensures { result ≡ occurs column.now p j claim_block }
+// Whether one of a block of claims is p. No branch parts them, so that four are compared at a time.
+fn among(block: &[u32; CLAIM_BLOCK], p: u32) -> bool
+    ensures { result ≡ list_any (λ x. x == p) block.now }
 {
     let mut found = false;
-    let mut k: usize = 0;
-    while k < CLAIM_BLOCK {
-        found = (column[j + k] == p) | found;
-        k += 1;
+    for x in block {
+        found |= *x == p;
     }
     found
 }
 
-// How many of the first i claims are passed by blocks of which none is p. The last block may lie over the one before.
-fn passed(column: &[u32; ENTRIES], i: usize, p: u32) -> usize
-    requires { i ≤ most_entries }
-    ensures { Without column.now p i result }
+// How many of the claims are passed by blocks of which none is p. The last block may lie over the one before.
+fn passed(column: &[u32], p: u32) -> usize
+    ensures within { result ≤ length column.now }
+    ensures other { list_any (λ x. x == p) (take result column.now) ≡ false }
 {
     let mut j: usize = 0;
-    while CLAIM_BLOCK <= i - j {
-        if among(column, j, p) {
+    // By places and not by `as_chunks`, whose rest would be counted back to where the last block begins.
+    while let Some(block) = column[j..].first_chunk::<CLAIM_BLOCK>() {
+        if among(block, p) {
             return j;
         }
         j += CLAIM_BLOCK;
     }
-    if i < CLAIM_BLOCK {
-        return j;
+    match column.last_chunk::<CLAIM_BLOCK>() {
+        Some(block) if !among(block, p) => column.len(),
+        _ => j,
     }
-    if among(column, i - CLAIM_BLOCK, p) {
-        return j;
-    }
-    i
 }
 
-// Row 7, where the claims stand in a column.
-fn scan_claims(
-    ofs: &[u64; OF_ROWS],
-    m: usize,
-    logs: &[u64; ENTRY_ROWS],
-    n: usize,
-    column: &[u32; ENTRIES],
-) -> Ruling
-    requires m_le_most_ofs { m ≤ most_ofs }
-    requires packed { Packed logs.now n column.now }
-    ensures { broken_line result ≡ row7 (reported ofs.now m logs.now n) }
+// Row 7, where the claims stand in a column: nested scans left by a label, as the scope has it. j is a place in the column and in the log.
+fn scan_claims(ofs: &Ofs, log: &[Entry], column: &[u32]) -> Result<(), BadLine>
+    requires { column.now ≡ map packed_claim log.now }
+    ensures { broken_line result ≡ row7 (batch_of [] (report_of ofs.now.items log.now)) }
 {
-    let heads = first_slots(ofs, m);
-    let mut i: usize = 0;
-    'lines: while i < n {
-        let l = entry_at(logs, i);
-        let rid = l.rid;
-        let num = l.num;
-        if outside(ofs, m, &heads, rid, num) {
-            break 'lines;
-        }
-        let p = pack(rid, num);
-        let mut j = passed(column, i, p);
-        while j < i {
-            if claims_at(logs, column, j, p, rid, num) {
-                break 'lines;
+    let slots = Slots::of(ofs);
+    'lines: {
+        for (i, entry) in log.iter().enumerate() {
+            let Entry { rid, num, .. } = *entry;
+            if outside(ofs, &slots, rid, num) {
+                break 'lines Err(BadLine {
+                    line: ofs.len() + 1 + i,
+                });
             }
-            j += 1;
+            let p = pack(rid, num);
+            for j in passed(&column[..i], p)..i {
+                if column[j] == p && claims(log[j], rid, num) {
+                    break 'lines Err(BadLine {
+                        line: ofs.len() + 1 + i,
+                    });
+                }
+            }
         }
-        i += 1;
-    }
-    if i < n {
-        Ruling::Broken(m + 1 + i)
-    } else {
-        Ruling::Kept
+        Ok(())
     }
 }
 
-// Row 7: log line's rid unknown, num 0 or above count, or claimed before. Of the first m `of` lines and n log lines, and no more than there is
-// room for.
-pub fn row_7(ofs: &[u64; OF_ROWS], m: usize, logs: &[u64; ENTRY_ROWS], n: usize) -> Ruling
-    ensures { broken_line result
-        ≡ row7 (batch_of [] (report_of ofs.now (min m most_ofs) logs.now (min n most_entries))) }
+// Row 7: log line's rid unknown, num 0 or above count, or claimed before.
+pub fn row_7(ofs: &Ofs, log: &Log) -> Result<(), BadLine>
+    ensures { broken_line result ≡ row7 (batch_of [] (report_of ofs.now.items log.now.items)) }
 {
-    let m = least(m, OFS);
-    let n = least(n, ENTRIES);
-    let mut column = [0u32; ENTRIES];
-    pack_claims(logs, n, &mut column);
-    scan_claims(ofs, m, logs, n, &column)
+    scan_claims(ofs, log, &pack_claims(log))
 }

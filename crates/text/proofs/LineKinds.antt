@@ -1,27 +1,18 @@
--- The kinds of line of a text: what the answer of a line reader tells, in whatever order it tries them.
-use Prim.Native.Nat.{ℕ, zero, suc, ◌+◌, ◌<◌, ◌≤◌}
-use mathlib.Core.List.{List, [], ◌∷◌}
-use mathlib.Core.Option.{Option, some, none}
-use mathlib.Core.Bool.{Bool, true, false, ◌&&◌, false≢true}
-use mathlib.Core.Path.{◌≡◌, refl, sym, ◌∙◌, ap, subst}
-use native.Mathlib.Omega.{arith}
+-- The kinds of line of a text: what the line at a place adds, in whatever order the kinds are tried.
+use Rattle.std.proofs.Common.{◌≡◌, ℕ, zero, suc, ◌+◌, ◌<◌, ◌≤◌, Bool, true, false, ◌&&◌, List, [], ◌∷◌, length, drop, get_or, MatchOption, Option, Some, None, refl, sym, ap, subst, ◌∙◌, arith}
+use mathlib.Core.Option.{Option as Maybe, some, none}
+use mathlib.Core.Bool.{false≢true}
 use borrow.Author.Tests.{eq-eqb, eqb-true}
 use lib.Dec.{eqb}
-use lib.ListN.{length, drop}
-use Rattle.basics.specs.Lists.{All}
-use Rattle.basics.proofs.Tests.{clash}
+use Rattle.std.specs.Option.{option_or}
+use Rattle.basics.proofs.Tests.{clash, by_bool, and-true}
 use Rattle.lines.specs.Line.{Format, prefix, line_of}
-use Rattle.lines.specs.Place.{line, line_end, found, nothing, found_at, line_at, found_in}
-use Rattle.lines.specs.declared.lines.Place.{Place}
-use Rattle.lines.specs.declared.lines.Place.TheVariants.{At, Nowhere}
+use Rattle.lines.specs.Place.{Found, line, line_end, found, nothing, found_at, line_at, found_in}
 use Rattle.lines.proofs.Prefix.{unbroken}
-use Rattle.lines.proofs.LinePlaces.{line-of, line_other}
-use Rattle.lines.proofs.LineTrip.{line-longer}
-use Rattle.text.specs.Text.{unreadable, Kind, add_line, read_text}
-use Rattle.text.specs.Steps.{Told, told, untold, behind, or_else, kind_at, kind, fields, numbers_in, told_in}
-use Rattle.text.specs.declared.kinds.Line.{Line}
-use Rattle.text.specs.declared.kinds.Line.TheVariants.{Known, Unknown}
-use Rattle.text.proofs.Reading.{Fits, Reading, reading-none, reading-cut}
+use Rattle.lines.proofs.LinePlaces.{line-of}
+use Rattle.lines.proofs.LineTrip.{line-longer, line-not}
+use Rattle.text.specs.Text.{Kind, add_line}
+use Rattle.text.specs.Steps.{Adds, Stands, LineIs, line_by}
 
 -- ── the words of the kinds ──
 
@@ -47,11 +38,52 @@ differ-prefix (x ∷ w) (y ∷ u) (b ∷ t) d h = go (eqb b x) refl (eqb b y) re
         rest (subst (λ (z : Bool). ◌≡◌ {A = Bool} (elim z [ true ↦ differ w u | false ↦ true ]) true)
         (eq-eqb x y (sym (eqb-true b x i) ∙ eqb-true b y j)) d) k
 
-both : (a b : Bool) → a && b ≡ true → (a ≡ true) × (b ≡ true)
-both true b h = (refl, h)
-both false b h = absurd (false≢true h)
+-- where a line of g stands, none of f does
+not-both : (f g : Format) (p vs : List ℕ) → differ f.word g.word ≡ true → line_of g p ≡ some vs → line_of f p ≡ none
+not-both f g p vs d e =
+    by_bool (prefix g.word p)
+    (λ h. line-not f p (differ-prefix f.word g.word p d h))
+    (λ h. let z : ◌≡◌ {A = Maybe (List ℕ)} none (some vs) = sym (line-not g p h) ∙ e in clash (cc))
+
+-- the line that is found at a place is the text's line there
+pub found-line : (f : Format) → unbroken f.word ≡ true → (s : List ℕ) (at : ℕ) (vs : List ℕ) (e : ℕ) → found vs e ≡ line_at f s at →
+    line_of f (line (drop at s)) ≡ some vs
+found-line f u s at vs e h = go (line_of f (line (drop at s))) refl (h ∙ line-of f u s at)
+  where
+    go : (o : Maybe (List ℕ)) → line_of f (line (drop at s)) ≡ o → found vs e ≡ found_at o (line_end s at) →
+        line_of f (line (drop at s)) ≡ some vs
+    go (some ws) i z = let y : ws ≡ vs = cc in i ∙ ap some y
+    go none i z = clash (cc)
+
+-- ── any number of kinds ──
+
+-- the kind of line that stands at a place, by its place in the list of kinds, its numbers and where it ends; or none of the list
+pub data FoundAs : Type 0 where
+  told : ℕ → List ℕ → ℕ → FoundAs
+  untold : FoundAs
+
+-- the same behind one kind more
+abbrev pub behind : FoundAs → FoundAs
+behind (told k vs e) = told (suc k) vs e
+behind untold = untold
+
+abbrev pub or_behind : Found → FoundAs → FoundAs
+or_behind (found vs e) t = told 0 vs e
+or_behind nothing t = behind t
 
 module _ {S : Type 0} where
+  -- the first kind that the line at a place fits
+  unfoldable pub kind_at : List (Kind S) → List ℕ → ℕ → FoundAs
+  kind_at [] s at = untold
+  kind_at (k ∷ ks) s at = or_behind (line_at k.format s at) (kind_at ks s at)
+
+  abbrev pub no_kind : Kind S
+  no_kind = record { format = record { word = []; largest = [] }; add = λ x vs. none }
+
+  -- kind k of a list
+  abbrev pub kind : List (Kind S) → ℕ → Kind S
+  kind ks k = get_or ks k no_kind
+
   abbrev word : Kind S → List ℕ
   word k = k.format.word
 
@@ -65,62 +97,46 @@ module _ {S : Type 0} where
   apart (k ∷ ks) = unbroken (word k) && (differs (word k) ks && apart ks)
 
   apart-head : (k : Kind S) (ks : List (Kind S)) → apart (k ∷ ks) ≡ true → unbroken (word k) ≡ true
-  apart-head k ks a = (both (unbroken (word k)) (differs (word k) ks && apart ks) a).0
+  apart-head k ks a = (and-true (unbroken (word k)) (differs (word k) ks && apart ks) a).0
 
   apart-tail : (k : Kind S) (ks : List (Kind S)) → apart (k ∷ ks) ≡ true → (differs (word k) ks ≡ true) × (apart ks ≡ true)
-  apart-tail k ks a = both (differs (word k) ks) (apart ks) (both (unbroken (word k)) (differs (word k) ks && apart ks) a).1
+  apart-tail k ks a =
+      and-true (differs (word k) ks) (apart ks) (and-true (unbroken (word k)) (differs (word k) ks && apart ks) a).1
 
-  differs_at : (w : List ℕ) (ks : List (Kind S)) (k : ℕ) → k < length ks → differs w ks ≡ true → differ w (word (kind ks k)) ≡ true
-  differs_at w [] k h d = absurd (omega arith)
-  differs_at w (j ∷ ks) zero h d = (both (differ w (word j)) (differs w ks) d).0
-  differs_at w (j ∷ ks) (suc k) h d = differs_at w ks k (omega arith) (both (differ w (word j)) (differs w ks) d).1
+  apart-at : (ks : List (Kind S)) (k : ℕ) → k < length ks → apart ks ≡ true → unbroken (word (kind ks k)) ≡ true
+  apart-at [] k h a = absurd (omega arith)
+  apart-at (j ∷ ks) zero h a = apart-head j ks a
+  apart-at (j ∷ ks) (suc k) h a = apart-at ks k (omega arith) (apart-tail j ks a).1
 
--- ── what a line reader may answer ──
+  differs-at : (w : List ℕ) (ks : List (Kind S)) (k : ℕ) → k < length ks → differs w ks ≡ true →
+      differ w (word (kind ks k)) ≡ true
+  differs-at w [] k h d = absurd (omega arith)
+  differs-at w (j ∷ ks) zero h d = (and-true (differ w (word j)) (differs w ks) d).0
+  differs-at w (j ∷ ks) (suc k) h d = differs-at w ks k (omega arith) (and-true (differ w (word j)) (differs w ks) d).1
 
--- where a line of g stands, none of f does
-not-both : (f g : Format) (s : List ℕ) (at : ℕ) → differ f.word g.word ≡ true → (vs : List ℕ) (e : ℕ) →
-    found vs e ≡ line_at g s at → nothing ≡ line_at f s at
-not-both f g s at d vs e h = go (prefix g.word (drop at s)) refl
-  where
-    go : (b : Bool) → prefix g.word (drop at s) ≡ b → nothing ≡ line_at f s at
-    go true k = line_other f.word f.largest s at (differ-prefix f.word g.word (drop at s) d k)
-    go false k = let z : found vs e ≡ nothing = h ∙ sym (line_other g.word g.largest s at k) in clash (cc)
-
-module _ {S : Type 0} where
   -- the only kind that fits is the first
   only-first : (ks : List (Kind S)) → apart ks ≡ true → (s : List ℕ) (at k : ℕ) → k < length ks → (vs : List ℕ) (e : ℕ) →
       found vs e ≡ line_at (kind ks k).format s at → told k vs e ≡ kind_at ks s at
   unfolding kind_at
   only-first [] a s at k h vs e f = absurd (omega arith)
-  only-first (j ∷ ks) a s at zero h vs e f = ap (λ t. or_else t (kind_at ks s at)) f
+  only-first (j ∷ ks) a s at zero h vs e f = ap (λ t. or_behind t (kind_at ks s at)) f
   only-first (j ∷ ks) a s at (suc k) h vs e f =
+      let g = (kind ks k).format in
       let b = apart-tail j ks a in
-      let d = differs_at (word j) ks k (omega arith) b.0 in
-      ap behind (only-first ks b.1 s at k (omega arith) vs e f)
-      ∙ ap (λ t. or_else t (kind_at ks s at)) (not-both j.format (kind ks k).format s at d vs e f)
+      let d = differs-at (word j) ks k (omega arith) b.0 in
+      let i = found-line g (apart-at ks k (omega arith) b.1) s at vs e f in
+      let n = line-of j.format (apart-head j ks a) s at
+      ∙ ap (λ o. found_at o (line_end s at)) (not-both j.format g (line (drop at s)) vs d i) in
+      ap behind (only-first ks b.1 s at k (omega arith) vs e f) ∙ ap (λ t. or_behind t (kind_at ks s at)) (sym n)
 
-  pub told-known : (ks : List (Kind S)) → apart ks ≡ true → (s : List ℕ) (at k : ℕ) → k < length ks → (v : List ℕ) (p : Place) (e : ℕ) →
-      p ≡ At e → found_in p (fields ks k) v ≡ line_at (kind ks k).format s at → told_in ks (Known k e) v ≡ kind_at ks s at
-  unfolding found_in told_in
-  told-known ks a s at k h v p e i f = only-first ks a s at k h _ e (ap (λ q. found_in q (fields ks k) v) (sym i) ∙ f)
+  -- the order in which the kinds are tried is free: what one of them answers is what the first that fits does
+  pub told-known : (ks : List (Kind S)) → apart ks ≡ true → (s : List ℕ) (at k : ℕ) → k < length ks →
+      (p : Option (List ℕ × ℕ)) (vs : List ℕ) (e : ℕ) → p ≡ Some (vs, e) → found_in p ≡ line_at (kind ks k).format s at →
+      told k vs e ≡ kind_at ks s at
+  unfolding found_in
+  told-known ks a s at k h p vs e i f = only-first ks a s at k h vs e (ap found_in (sym i) ∙ f)
 
-  all-missed : (s : List ℕ) (at : ℕ) (ks : List (Kind S)) → All (λ k. nothing ≡ line_at k.format s at) ks → untold ≡ kind_at ks s at
-  unfolding kind_at
-  all-missed s at [] h = refl
-  all-missed s at (k ∷ ks) h = ap behind (all-missed s at ks h.1) ∙ ap (λ t. or_else t (kind_at ks s at)) h.0
-
-  pub told-unknown : (ks : List (Kind S)) (s : List ℕ) (at : ℕ) (v : List ℕ) → All (λ k. nothing ≡ line_at k.format s at) ks →
-      told_in ks Unknown v ≡ kind_at ks s at
-  unfolding told_in
-  told-unknown ks s at v h = all-missed s at ks h
-
--- a kind that was tried and does not fit
-pub missed : (f : Format) (s : List ℕ) (at n : ℕ) (v : List ℕ) (p : Place) → p ≡ Nowhere → found_in p n v ≡ line_at f s at →
-    nothing ≡ line_at f s at
-unfolding found_in
-missed f s at n v p i h = ap (λ q. found_in q n v) (sym i) ∙ h
-
--- ── what the answer tells of the line at the place ──
+-- ── what a line adds ──
 
 module _ {S : Type 0} (k : Kind S) (ks : List (Kind S)) (x : S) (p : List ℕ) where
   pub adds-first : (vs : List ℕ) → line_of k.format p ≡ some vs → add_line (k ∷ ks) x p ≡ k.add x vs
@@ -131,82 +147,74 @@ module _ {S : Type 0} (k : Kind S) (ks : List (Kind S)) (x : S) (p : List ℕ) w
   unfolding add_line
   adds-later e = rw (e, add_line) refl
 
-module _ {S : Type 0} (s : List ℕ) (at : ℕ) where
-  kind_fits : (ks : List (Kind S)) → apart ks ≡ true → (k e : ℕ) (vs : List ℕ) → told k vs e ≡ kind_at ks s at → Fits ks s at k e vs
-  unfolding kind_at
-  kind_fits [] a k e vs t = clash (cc)
-  kind_fits (j ∷ ks) a k e vs t =
-      go (line_of j.format (line (drop at s))) refl (t ∙ ap (λ f. or_else f (kind_at ks s at)) (line-of j.format (apart-head j ks a) s at))
-      (kind_fits ks (apart-tail j ks a).1)
+-- what `or_else` answers
+abbrev OrElse : {T : Type 0} → (a b r : Option T) → Type 0
+OrElse a b r = MatchOption a (r ≡ b) (λ x. r ≡ Some x)
+
+or-else : {T : Type 0} (a b r : Option T) → OrElse a b r → r ≡ option_or a b
+or-else None b r h = h
+or-else (Some x) b r h = h
+
+-- a kind of line and the records of its lines: what one adds, and how many bytes it has at least
+pub record Told {L S : Type 0} (k : Kind S) (from : List ℕ → L) (adds : Adds L S) (least : ℕ) : Type 0 where
+  pub whole : unbroken k.format.word ≡ true
+  pub adding : (vs : List ℕ) (y : S) → k.add y vs ≡ adds (from vs) y
+  pub bytes : least ≤ length k.format.word + 2
+
+module _ {L S : Type 0} {k j : Kind S} {first second : List ℕ → L} {adds : Adds L S} {least : ℕ}
+    (h : Told k first adds least) (g : Told j second adds least) (s : List ℕ) (at : ℕ) where
+  abbrev here : List ℕ
+  here = line (drop at s)
+
+  abbrev kinds : List (Kind S)
+  kinds = k ∷ j ∷ []
+
+  -- the line is of the first kind, of the second alone, or of none
+  of-first : (vs : List ℕ) → line_of k.format here ≡ some vs → Stands kinds adds least s at (first vs) (line_end s at)
+  of-first vs e =
+      record {
+        end = refl;
+        long = omega (arith, h.bytes, line-longer k.format here vs e);
+        added = λ y. adds-first k (j ∷ []) y here vs e ∙ h.adding vs y;
+      }
+
+  of-second : (vs : List ℕ) → line_of k.format here ≡ none → line_of j.format here ≡ some vs →
+      Stands kinds adds least s at (second vs) (line_end s at)
+  of-second vs i e =
+      record {
+        end = refl;
+        long = omega (arith, g.bytes, line-longer j.format here vs e);
+        added = λ y. adds-later k (j ∷ []) y here i ∙ adds-first j [] y here vs e ∙ g.adding vs y;
+      }
+
+  of-none : line_of k.format here ≡ none → line_of j.format here ≡ none → (y : S) → add_line kinds y here ≡ none
+  unfolding add_line
+  of-none i e y = adds-later k (j ∷ []) y here i ∙ adds-later j [] y here e
+
+  -- the first kind is tried first
+  pub first-tried : (a r : Option (L × ℕ)) → a ≡ line_by first (line_at k.format s at) →
+      OrElse a (line_by second (line_at j.format s at)) r → LineIs kinds adds least s at r
+  first-tried a r d e =
+      subst (LineIs kinds adds least s at) (sym (or-else a _ r e ∙ ap (λ a. option_or a (line_by second (line_at j.format s at))) d))
+      (rw (line-of k.format h.whole s at, line-of j.format g.whole s at) (go (line_of k.format here) refl (line_of j.format here) refl))
     where
-      later : line_of j.format (line (drop at s)) ≡ none → (t : Told) → t ≡ kind_at ks s at → told k vs e ≡ behind t →
-          ((k e : ℕ) (vs : List ℕ) → told k vs e ≡ kind_at ks s at → Fits ks s at k e vs) → Fits (j ∷ ks) s at k e vs
-      later i (told n ws d) q z rest =
-          let y : suc n ≡ k = cc in
-          let w : vs ≡ ws = cc in
-          let x : e ≡ d = cc in
-          let f = rest n e vs ((λ i. told n (w i) (x i)) ∙ q) in
-          subst (λ k. Fits (j ∷ ks) s at k e vs) y
-          (record {
-            among = omega (arith, f.among);
-            end = f.end;
-            numbers = f.numbers;
-            added = λ x. adds-later j ks x (line (drop at s)) i ∙ f.added x;
-          })
-      later i untold q z rest = clash (cc)
+      go : (o : Maybe (List ℕ)) → line_of k.format here ≡ o → (q : Maybe (List ℕ)) → line_of j.format here ≡ q →
+          LineIs kinds adds least s at
+          (option_or (line_by first (found_at o (line_end s at))) (line_by second (found_at q (line_end s at))))
+      go (some vs) i q l = of-first vs i
+      go none i (some vs) l = of-second vs i l
+      go none i none l = of-none i l
 
-      go : (o : Option (List ℕ)) → line_of j.format (line (drop at s)) ≡ o → told k vs e ≡ or_else (found_at o (line_end s at)) (kind_at ks s at) →
-          ((k e : ℕ) (vs : List ℕ) → told k vs e ≡ kind_at ks s at → Fits ks s at k e vs) → Fits (j ∷ ks) s at k e vs
-      go (some ws) i z rest =
-          let y : 0 ≡ k = cc in
-          let w : ws ≡ vs = cc in
-          let n : line_of j.format (line (drop at s)) ≡ some vs = i ∙ ap some w in
-          let d : e ≡ line_end s at = cc in
-          subst (λ k. Fits (j ∷ ks) s at k e vs) y
-          (record { among = omega arith; end = d; numbers = n; added = λ x. adds-first j ks x (line (drop at s)) vs n })
-      go none i z rest = later i (kind_at ks s at) refl z rest
-
-  none-fits : (ks : List (Kind S)) → apart ks ≡ true → untold ≡ kind_at ks s at → (x : S) → add_line ks x (line (drop at s)) ≡ none
-  unfolding kind_at add_line
-  none-fits [] a t x = refl
-  none-fits (j ∷ ks) a t x =
-      go (line_of j.format (line (drop at s))) refl (t ∙ ap (λ f. or_else f (kind_at ks s at)) (line-of j.format (apart-head j ks a) s at))
-      (none-fits ks (apart-tail j ks a).1)
+  -- the second kind is tried first: no line is of both
+  pub second-tried : differ k.format.word j.format.word ≡ true → (a r : Option (L × ℕ)) → a ≡ line_by second (line_at j.format s at) →
+      OrElse a (line_by first (line_at k.format s at)) r → LineIs kinds adds least s at r
+  second-tried w a r d e =
+      subst (LineIs kinds adds least s at) (sym (or-else a _ r e ∙ ap (λ a. option_or a (line_by first (line_at k.format s at))) d))
+      (rw (line-of k.format h.whole s at, line-of j.format g.whole s at) (go (line_of j.format here) refl (line_of k.format here) refl))
     where
-      later : (t : Told) → t ≡ kind_at ks s at → untold ≡ behind t → untold ≡ kind_at ks s at
-      later (told n ws d) q z = clash (cc)
-      later untold q z = q
-
-      go : (o : Option (List ℕ)) → line_of j.format (line (drop at s)) ≡ o → untold ≡ or_else (found_at o (line_end s at)) (kind_at ks s at) →
-          (untold ≡ kind_at ks s at → (x : S) → add_line ks x (line (drop at s)) ≡ none) → add_line (j ∷ ks) x (line (drop at s)) ≡ none
-      go (some ws) i z rest = clash (cc)
-      go none i z rest = adds-later j ks x (line (drop at s)) i ∙ rest (later (kind_at ks s at) refl z) x
-
--- a line is longer than its word
-pub fits-longer : {S : Type 0} {ks : List (Kind S)} {s : List ℕ} {at k e : ℕ} {vs : List ℕ} → Fits ks s at k e vs →
-    at + length (kind ks k).format.word < e
-fits-longer f = omega (arith, f.end, line-longer _ _ _ f.numbers)
-
-module _ {S : Type 0} (ks : List (Kind S)) (a : apart ks ≡ true) (s : List ℕ) (at : ℕ) (v : List ℕ) (l : Line)
-    (t : told_in ks l v ≡ kind_at ks s at) where
-  pub is_known : (k e j : ℕ) → l ≡ Known k e → k ≡ j → Fits ks s at j e (numbers_in ks j v)
-  unfolding told_in
-  is_known k e j i z =
-      subst (λ j. Fits ks s at j e (numbers_in ks j v)) z (kind_fits s at ks a k e _ (ap (λ l. told_in ks l v) (sym i) ∙ t))
-
-  -- past all kinds but the last
-  pub is_last : (k e n : ℕ) → l ≡ Known k e → length ks ≡ suc n → n ≤ k → Fits ks s at n e (numbers_in ks n v)
-  is_last k e n i h g = is_known k e n i (omega (arith, (is_known k e k i refl).among, h, g))
-
-  pub is-unknown : l ≡ Unknown → (x : S) → add_line ks x (line (drop at s)) ≡ none
-  unfolding told_in
-  is-unknown i = none-fits s at ks a (ap (λ l. told_in ks l v) (sym i) ∙ t)
-
--- the text is unreadable at a line of no kind, and at one without its line feed
-module _ {S : Type 0} {ks : List (Kind S)} {x₀ : S} {s : List ℕ} {x : S} {nr at : ℕ} (r : Reading ks x₀ s x nr at)
-    (a : apart ks ≡ true) (h : at < length s) (v : List ℕ) (l : Line) (t : told_in ks l v ≡ kind_at ks s at) where
-  pub line-unknown : l ≡ Unknown → unreadable nr ≡ read_text ks x₀ s
-  line-unknown i = reading-none r h (is-unknown ks a s at v l t i x)
-
-  pub line-cut : (k e : ℕ) → l ≡ Known k e → length s ≤ e → unreadable nr ≡ read_text ks x₀ s
-  line-cut k e i g = reading-cut r h (is_known ks a s at v l t k e k i refl) g
+      go : (q : Maybe (List ℕ)) → line_of j.format here ≡ q → (o : Maybe (List ℕ)) → line_of k.format here ≡ o →
+          LineIs kinds adds least s at
+          (option_or (line_by second (found_at q (line_end s at))) (line_by first (found_at o (line_end s at))))
+      go (some vs) l o i = of-second vs (not-both k.format j.format here vs w l) l
+      go none l (some vs) i = of-first vs i
+      go none l none i = of-none i l

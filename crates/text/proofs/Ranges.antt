@@ -1,5 +1,5 @@
--- What holds of the numbers of each line, which are in their ranges, holds of all that a readable text holds; so a readable trace and a
--- readable report are in range. And the turns of a schedule that is held.
+-- What holds of the numbers of each line, which are in their ranges, holds of all that a readable text holds; so a readable trace, a
+-- readable report and the turns of a readable schedule are in range.
 use Prim.Native.Nat.{ℕ, zero, suc, ◌+◌, ◌≤◌, ◌<◌}
 use mathlib.Core.Bool.{Bool, true, false}
 use mathlib.Core.List.{List, [], ◌∷◌, ◌++◌}
@@ -13,22 +13,22 @@ use lib.ListN.{length, get_or, length-append}
 use Rattle.basics.specs.Lists.{All}
 use Rattle.basics.specs.Count.{count}
 use Rattle.basics.proofs.Lists.{count_yes, count_no}
-use Rattle.basics.proofs.Tests.{clash, by_bool}
+use Rattle.basics.proofs.Tests.{clash}
 use Rattle.lines.specs.Line.{InRange, InRanges, any, line_of}
 use Rattle.lines.specs.Parts.{parts}
-use Rattle.lines.specs.Place.{cells_from, cells}
 use Rattle.lines.proofs.LineTrip.{line-range}
 use Rattle.text.specs.Text.{Read, readable, unreadable, Kind, within, add_line, read_lines, read_text}
 use Rattle.text.specs.Codes.{is_operation}
-use Rattle.text.specs.Held.{move_at}
-use Rattle.text.specs.Formats.{request_line, response_line, of_line, log_line}
+use Rattle.text.specs.Formats.{request_line, response_line, of_line, log_line, arrive_line, turn_line}
+use Rattle.text.specs.Held.{TurnIn}
+use Rattle.text.specs.Schedule.{arrive_from, turn_from, is_arrive, add_arrive, add_turn, schedule_kinds, read_schedule}
+use Rattle.text.specs.declared.schedule.Move.{Move}
 use Rattle.text.specs.Trace.{request_from, response_from, is_request, is_response, add_request, add_response, trace_kinds, read_trace}
 use Rattle.text.specs.Report.{Report, no_lines, of_from, entry_from, add_of, add_log, report_kinds, read_report}
 use Rattle.text.specs.Written.{EventIn, OfIn, EntryIn}
 use Rattle.text.specs.declared.trace.Event.{Event}
 use Rattle.text.specs.declared.trace.Event.TheVariants.{Request, Response}
 use Rattle.text.specs.declared.report.Entry.{Entry}
-use Rattle.text.specs.declared.schedule.Move.TheVariants.{Turn}
 
 -- ── a fact that each kind of line keeps is kept by a whole text ──
 module _ {S : Type 0} (P : S → Type 0) where
@@ -88,6 +88,13 @@ pub range_at : (rs : List ℕ) (vs : List ℕ) (i : ℕ) → InRanges rs vs → 
 range_at rs vs i h k = (range-in rs vs i h k).below
 
 -- and so are the numbers as a record takes them, one by one
+abbrev cells_from : ℕ → ℕ → List ℕ → List ℕ
+cells_from zero i v = []
+cells_from (suc n) i v = get_or v i 0 ∷ cells_from n (suc i) v
+
+abbrev cells : ℕ → List ℕ → List ℕ
+cells n v = cells_from n 0 v
+
 cells_in : (rs : List ℕ) (i : ℕ) (v : List ℕ) → ((j : ℕ) → j < length rs → InRange (get_or rs j any) (get_or v (i + j) 0)) →
     InRanges rs (cells_from (length rs) i v)
 cells_in [] i v h = tt
@@ -203,10 +210,21 @@ report-in s r e =
     text-keeps ReportIn report_kinds (of-keeps, (log-keeps, tt)) no_lines r s
     (record { ofs_in = tt; log_in = tt; few_ofs = omega arith; few_entries = omega arith }) e
 
--- ── a turn of a schedule, as it is held ──
-pub turn_in : (moves arrivals : List ℕ) (i r : ℕ) → move_at moves arrivals i ≡ Turn r → r < 65536
-unfolding move_at
-turn_in moves arrivals i r e =
-    by_bool (ltb (get_or moves i 0) 65536)
-    (λ t. let e' = rw t at e in let z : get_or moves i 0 ≡ r = cc in subst (λ r. r < 65536) z (ltb-true (get_or moves i 0) 65536 t))
-    (λ t. let e' = rw t at e in clash (cc))
+-- ── what a readable schedule holds ──
+arrive-keeps : Keeps (All TurnIn) (record { format = arrive_line; add = add_arrive })
+unfolding add_arrive
+arrive-keeps ms q vs g h e =
+    let w = within-some (count is_arrive ms) 64 _ _ e in
+    subst (All TurnIn) w.1 (all_more TurnIn ms (arrive_from vs) g tt)
+
+turn-keeps : Keeps (All TurnIn) (record { format = turn_line; add = add_turn })
+unfolding add_turn
+turn-keeps ms q vs g h e =
+    let w : ms ++ turn_from vs ∷ [] ≡ q = cc in
+    let r = range_at turn_line.largest vs 0 h (omega arith) in
+    let t : TurnIn (turn_from vs) = omega arith in
+    subst (All TurnIn) w (all_more TurnIn ms (turn_from vs) g t)
+
+pub turn_in : (s : List ℕ) (ms : List Move) → read_schedule s ≡ readable ms → All TurnIn ms
+unfolding read_schedule
+turn_in s ms e = text-keeps (All TurnIn) schedule_kinds (arrive-keeps, (turn-keeps, tt)) [] ms s tt e

@@ -29,7 +29,7 @@ use Rattle.text.specs.declared.trace.Event.TheVariants.{Request, Response}
 use Rattle.text.specs.declared.report.Of.{Of}
 use Rattle.text.specs.declared.report.Entry.{Entry}
 use Rattle.text.proofs.CodeLaws.{narrow_log, entry-range}
-use Rattle.text.proofs.Reading.{within-yes}
+use Rattle.text.proofs.ReadLines.{within-yes}
 use Rattle.text.proofs.LineKinds.{adds-first, adds-later}
 
 -- ── one line, and then the others ──

@@ -6,7 +6,6 @@ pub mod Trace
 pub mod Report
 pub mod Schedule
 pub mod Written
-pub mod Rows
 pub mod Held
 pub mod Slots
 pub mod Steps

@@ -1,4 +1,5 @@
-// The codes of instructions, and which of them are operations. A log line's kind is its operation's code.
+// The codes of instructions, and which of them are operations. A log line's kind is its operation's code. A text may hold any number as a
+// code, so it stays one.
 ghost use Rattle.std.specs.Prelude.{◌≡◌};
 ghost use Rattle.text.specs.Codes.{is_operation};
 
@@ -30,8 +31,5 @@ pub const HAS: u64 = 10;
 pub fn is_operation(kind: u64) -> bool
     ensures { result ≡ is_operation kind }
 {
-    match kind {
-        READ..=HAS => true,
-        _ => false,
-    }
+    matches!(kind, READ..=HAS)
 }

@@ -1,4 +1,4 @@
-// The limits of the four texts, and the lengths of the arrays that hold what was read. A record held as numbers takes a row.
+// The limits of the four texts. u64 and usize have no From for one another, so a limit in both is cast.
 
 // The most bytes of a text, and room for one more, so that a longer text is seen as such.
 pub const TEXT_BYTES: usize = 65535;
@@ -6,7 +6,7 @@ pub const TEXT_BYTES: usize = 65535;
 pub const TEXT_ROOM: usize = TEXT_BYTES + 1;
 
 // The range of a field with no other range named.
-pub const MOST_NUMBER: u64 = 18446744073709551615;
+pub const MOST_NUMBER: u64 = u64::MAX;
 
 // Request ids are below this.
 pub const RIDS: u64 = 65536;
@@ -30,16 +30,8 @@ pub const RESPONSES: usize = 64;
 
 pub const EVENTS: usize = REQUESTS + RESPONSES;
 
-pub const EVENT_ROW: usize = 5;
-
-pub const EVENT_ROWS: usize = EVENTS * EVENT_ROW;
-
 // The most `of` lines of a report.
 pub const OFS: usize = 64;
-
-pub const OF_ROW: usize = 3;
-
-pub const OF_ROWS: usize = OFS * OF_ROW;
 
 // The largest group of an `of` line.
 pub const MOST_GROUP: u64 = 63;
@@ -55,21 +47,13 @@ pub const MOST_OBJECT: u64 = OBJECTS - 1;
 // The most `log` lines of a report.
 pub const ENTRIES: usize = 1024;
 
-pub const ENTRY_ROW: usize = 6;
-
-pub const ENTRY_ROWS: usize = ENTRIES * ENTRY_ROW;
-
 // The most arrivals of a schedule.
 pub const ARRIVALS: usize = 64;
-
-pub const ARRIVAL_ROW: usize = 4;
-
-pub const ARRIVAL_ROWS: usize = ARRIVALS * ARRIVAL_ROW;
 
 // The most lines of a schedule: no line is shorter than the seven bytes of `turn=0`.
 pub const MOVES: usize = TEXT_BYTES / 7;
 
-// The most items of an order: each log line and each event.
+// The most items of an order: each log line and each event. The C interface holds an item as a row of two numbers.
 pub const ITEMS: usize = ENTRIES + EVENTS;
 
 pub const ITEM_ROW: usize = 2;

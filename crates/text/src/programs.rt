@@ -1,20 +1,17 @@
 // The programs text: `program` lines, each followed by its `do` lines.
-ghost use Rattle.std.specs.Prelude.{◌≡◌, get_or, replicate};
-ghost use Rattle.lines.specs.Place.{cells};
-ghost use Rattle.text.specs.Formats.{most_instructions};
-ghost use Rattle.text.specs.Programs.{no_instr, instr_from, program_kinds};
-ghost use Rattle.text.specs.Held.{ProgramsIs, unreadable_programs};
-ghost use Rattle.text.specs.Steps.{kind_at, told_in};
+ghost use Rattle.std.specs.Prelude.{◌≡◌, cond, nat_lt};
+ghost use Rattle.lines.specs.Place.{line_at};
+ghost use Rattle.text.specs.Formats.{do_line, program_line, most_instructions};
+ghost use Rattle.text.specs.Steps.{line_by, do_from, program_from, grown, ProgramJoins};
+ghost use Rattle.text.specs.declared.programs.ProgramLine.TheVariants.{Program as Begin, Do};
+ghost use Rattle.text.specs.Held.{ProgramsIs, no_programs, blank_program};
 
-use crate::kinds::Line;
-use crate::limits::{INSTRUCTIONS, MOST_NUMBER, PROGRAMS, TEXT_BYTES};
-use lines::{Place, line_at};
-
-// The last place of the table.
-const LAST_PROGRAM: usize = PROGRAMS - 1;
+use crate::limits::{INSTRUCTIONS, MOST_NUMBER, PROGRAMS};
+use crate::reading::{BadLine, Line, read_lines};
+use lines::line_at;
 
 // do=code,a,b,c
-#[derive(Clone, Copy)]
+#[derive(Clone, Copy, Debug, Default, PartialEq, Eq)]
 pub struct Instr {
     pub code: u64,
     pub a: u64,
@@ -22,7 +19,8 @@ pub struct Instr {
     pub c: u64,
 }
 
-// program=number, and its instructions: the first n of code.
+// program=number, and its instructions: the first n of code. It is an array and no `ArrayVec`, as the scope has programs: each position, taken
+// modulo INSTRUCTIONS, has an instruction, so no step of a request asks how many there are.
 #[derive(Clone, Copy)]
 pub struct Program {
     pub number: u64,
@@ -30,134 +28,144 @@ pub struct Program {
     pub code: [Instr; INSTRUCTIONS],
 }
 
-// What was read: the first n of table; or the unreadable line.
+impl Program {
+    // One with no instructions yet.
+    fn new(number: u64) -> Program
+        ensures { result ≡ blank_program number }
+    {
+        Program {
+            number,
+            n: 0,
+            code: [Instr::default(); INSTRUCTIONS],
+        }
+    }
+
+    // One instruction more, or no room for it.
+    fn push(&mut self, instr: Instr) -> bool
+        ensures room { result ≡ nat_lt self.old.n most_instructions }
+        ensures program { self.new ≡ cond result (grown self.old instr) self.old }
+    {
+        if INSTRUCTIONS <= self.n {
+            return false;
+        }
+        self.code[self.n] = instr;
+        self.n += 1;
+        true
+    }
+}
+
+// What was read: the first n of table, an array for the same reason.
 #[derive(Clone, Copy)]
 pub struct Programs {
-    pub ok: bool,
-    pub line: u64,
     pub n: usize,
     pub table: [Program; PROGRAMS],
 }
 
-// The line from at on: a `program` or a `do` line. Most are `do` lines, which are tried first.
-fn program_line(s: &[u8], at: usize, v: &mut [u64; 6]) -> Line
-    ensures { told_in program_kinds result v.new ≡ kind_at program_kinds s.now at }
-{
-    let max: u64 = MOST_NUMBER;
-    let instr = [max, max, max, max, 0, 0];
-    if let Place::At(e) = line_at(s, at, b"do=", 4, &instr, v) {
-        return Line::Known(1, e);
-    }
-    let program = [max, 0, 0, 0, 0, 0];
-    if let Place::At(e) = line_at(s, at, b"program=", 1, &program, v) {
-        return Line::Known(0, e);
-    }
-    Line::Unknown
-}
-
-fn number_from(v: &[u64; 6]) -> u64
-    ensures { result ≡ get_or v.now 0 0 }
-{
-    v[0]
-}
-
-fn instr_from(v: &[u64; 6]) -> Instr
-    ensures { result ≡ instr_from (cells 4 v.now) }
-{
-    Instr {
-        code: v[0],
-        a: v[1],
-        b: v[2],
-        c: v[3],
-    }
-}
-
-fn no_code() -> [Instr; INSTRUCTIONS]
-    ensures { result ≡ replicate most_instructions no_instr }
-{
-    [Instr {
-        code: 0,
-        a: 0,
-        b: 0,
-        c: 0,
-    }; INSTRUCTIONS]
-}
-
-fn unreadable(line: u64) -> Programs
-    ensures { result ≡ unreadable_programs line }
-{
-    Programs {
-        ok: false,
-        line,
-        n: 0,
-        table: [Program {
-            number: 0,
+impl Programs {
+    // None.
+    pub fn new() -> Programs
+        ensures { result ≡ no_programs }
+    {
+        Programs {
             n: 0,
-            code: no_code(),
-        }; PROGRAMS],
+            table: [Program::new(0); PROGRAMS],
+        }
+    }
+
+    // One program more, or no room for it.
+    fn begin(&mut self, number: u64) -> bool
+        ensures { ProgramJoins (Begin number) self.old self.new result }
+    {
+        if PROGRAMS <= self.n {
+            return false;
+        }
+        self.table[self.n] = Program::new(number);
+        self.n += 1;
+        true
+    }
+
+    // One instruction more of the last program, or no room for it, or no program.
+    fn extend(&mut self, instr: Instr) -> bool
+        ensures { ProgramJoins (Do instr) self.old self.new result }
+    {
+        if self.n == 0 || PROGRAMS < self.n {
+            return false;
+        }
+        self.table[self.n - 1].push(instr)
     }
 }
 
-// Reads the programs. The program at hand has a number and the first n of code; it joins the table when the next one begins or
-// the text ends, so that no program is copied line by line. Before the first `program` line the place for it is the table's
-// last, which counts only once a 16th program has filled it.
-pub fn read_programs(s: &[u8]) -> Programs
-    ensures { ProgramsIs s.now result }
+#[derive(Clone, Copy)]
+pub(crate) enum ProgramLine {
+    Program(u64),
+    Do(Instr),
+}
+
+#[tactic(auto, unfolding(lines::specs::Place::found_in))]
+fn do_at(s: &[u8], at: usize) -> Option<(ProgramLine, usize)>
+    ensures { result ≡ line_by do_from (line_at do_line s.now at) }
 {
-    if TEXT_BYTES < s.len() {
-        return unreadable(0);
+    let max = MOST_NUMBER;
+    let (v, end) = line_at(s, at, b"do=", &[max, max, max, max])?;
+    let [code, a, b, c] = v;
+    Some((ProgramLine::Do(Instr { code, a, b, c }), end))
+}
+
+#[tactic(auto, unfolding(lines::specs::Place::found_in))]
+fn program_at(s: &[u8], at: usize) -> Option<(ProgramLine, usize)>
+    ensures { result ≡ line_by program_from (line_at program_line s.now at) }
+{
+    let (v, end) = line_at(s, at, b"program=", &[MOST_NUMBER])?;
+    let [number] = v;
+    Some((ProgramLine::Program(number), end))
+}
+
+impl Line for ProgramLine {
+    type Held = Programs;
+
+    type Beside = ();
+
+    ghost use Rattle.std.specs.Prelude.{List, []};
+    ghost use Rattle.text.specs.Programs.{program_kinds};
+    ghost use Rattle.text.specs.Held.{table_in};
+    ghost use Rattle.text.specs.Steps.{program_adds, Filling};
+    ghost use Rattle.text.specs.declared.programs.Program.{Program};
+
+    ghost read = { List Program };
+
+    ghost kinds = { program_kinds };
+
+    ghost nothing = { [] };
+
+    ghost adds = { program_adds };
+
+    ghost least = { 0 };
+
+    ghost held = { λ programs _. table_in programs };
+
+    ghost kept = { λ programs _ _. Filling programs };
+
+    // Most are `do` lines, which are tried first.
+    fn line_at(s: &[u8], at: usize) -> Option<(Self, usize)> {
+        do_at(s, at).or_else(|| program_at(s, at))
     }
-    let mut table = [Program {
-        number: 0,
-        n: 0,
-        code: no_code(),
-    }; PROGRAMS];
-    let mut v = [0u64; 6];
-    let mut number: u64 = 0;
-    let mut code = no_code();
-    let mut m: usize = 0;
-    let mut n: usize = 0;
-    let mut line: u64 = 1;
-    let mut at: usize = 0;
-    while at < s.len() {
-        let Line::Known(k, e) = program_line(s, at, &mut v) else {
-            return unreadable(line);
-        };
-        if s.len() <= e {
-            return unreadable(line);
+
+    fn join(self, programs: &mut Programs, _beside: &mut ()) -> bool {
+        match self {
+            ProgramLine::Program(number) => programs.begin(number),
+            ProgramLine::Do(instr) => programs.extend(instr),
         }
-        match k {
-            0 => {
-                if PROGRAMS <= m {
-                    return unreadable(line);
-                }
-                table[(m + LAST_PROGRAM) % PROGRAMS] = Program { number, n, code };
-                number = number_from(&v);
-                code = no_code();
-                m += 1;
-                n = 0;
-                line += 1;
-                at = e + 1;
-            }
-            _ => {
-                if m == 0 {
-                    return unreadable(line);
-                }
-                if INSTRUCTIONS <= n {
-                    return unreadable(line);
-                }
-                code[n] = instr_from(&v);
-                n += 1;
-                line += 1;
-                at = e + 1;
-            }
-        }
     }
-    table[(m + LAST_PROGRAM) % PROGRAMS] = Program { number, n, code };
-    Programs {
-        ok: true,
-        line: 0,
-        n: m,
-        table,
+}
+
+// Reads the programs into the lent table, where each is written in its place.
+pub fn read_programs(s: &[u8], programs: &mut Programs) -> Result<(), BadLine>
+    ensures { ProgramsIs s.now result programs.new }
+{
+    programs.n = 0;
+    let result = read_lines::<ProgramLine>(s, programs, &mut ());
+    if result.is_err() {
+        *programs = Programs::new();
     }
+    result
 }

@@ -1,166 +1,194 @@
-// The schedule: `arrive` and `turn` lines. A text holds up to MOVES lines, most of them turns, so a line is kept as one small
-// number, and the four numbers of an arrival stand in rows of their own.
-ghost use Rattle.std.specs.Prelude.{◌≡◌, length};
-ghost use Rattle.lines.specs.Place.{cells};
-ghost use Rattle.text.specs.Schedule.{arrive_from, turn_from, schedule_kinds};
-ghost use Rattle.text.specs.Held.{move_at, move_code, with_move, with_arrival, ScheduleIs};
-ghost use Rattle.text.specs.Steps.{kind_at, told_in};
+// The schedule: `arrive` and `turn` lines. A text holds up to MOVES lines, most of them turns, so a line is kept in four bytes, and
+// the numbers of the arrivals stand in a list of their own. Rids and places fit 16 and 8 bits, to which no From narrows.
+ghost use Rattle.std.specs.Prelude.{◌≡◌, ◌≤◌, [], length, slice_get, get_or};
+ghost use Rattle.lines.specs.Place.{line_at};
+ghost use Rattle.text.specs.Formats.{arrive_line, turn_line};
+ghost use Rattle.text.specs.Held.{read_in, moves_in, most_moves, arrival_at, no_move, TurnIn};
+ghost use Rattle.text.specs.Steps.{line_by, turned_from, arrived_from, ScheduleKept, ScheduleJoins};
+ghost use Rattle.text.specs.declared.schedule.ScheduleLine.TheVariants.{Arrive as Arrived};
+ghost use Rattle.text.specs.Schedule.{read_schedule};
 
-use crate::kinds::{Line, Lines};
-use crate::limits::{
-    ARRIVAL_ROW, ARRIVAL_ROWS, ARRIVALS, MOST_NUMBER, MOST_RID, MOVES, RIDS, TEXT_BYTES,
-};
-use basics::number_of;
-use lines::{Place, line_at};
-
-// A turn is kept as its rid, an arrival as this and its row.
-const FIRST_ARRIVAL: u32 = RIDS as u32;
-
-const ARRIVAL_NUMBERS: u64 = ARRIVALS as u64;
+use crate::limits::{ARRIVALS, MOST_NUMBER, MOST_RID, MOVES};
+use crate::reading::{BadLine, Line, read_lines};
+use arrayvec::ArrayVec;
+use lines::line_at;
 
 // arrive=rid,prog,a,b or turn=rid
-#[derive(Clone, Copy)]
+#[derive(Clone, Copy, Debug, PartialEq, Eq)]
 pub enum Move {
     Arrive { rid: u64, prog: u64, a: u64, b: u64 },
     Turn { rid: u64 },
 }
 
-// The line from at on: an arrival or a turn. Most are turns, which are tried first.
-fn schedule_line(s: &[u8], at: usize, v: &mut [u64; 6]) -> Line
-    ensures { told_in schedule_kinds result v.new ≡ kind_at schedule_kinds s.now at }
-{
-    let max: u64 = MOST_NUMBER;
-    let turn = [MOST_RID, 0, 0, 0, 0, 0];
-    if let Place::At(e) = line_at(s, at, b"turn=", 1, &turn, v) {
-        return Line::Known(1, e);
-    }
-    let arrive = [MOST_RID, max, max, max, 0, 0];
-    if let Place::At(e) = line_at(s, at, b"arrive=", 4, &arrive, v) {
-        return Line::Known(0, e);
-    }
-    Line::Unknown
+// The numbers of an arrival. `Move` has them as fields of its own, as the definitions take them one by one.
+#[derive(Clone, Copy, Default)]
+pub(crate) struct Arrival {
+    rid: u64,
+    prog: u64,
+    a: u64,
+    b: u64,
 }
 
-fn arrive_from(v: &[u64; 6]) -> Move
-    ensures { result ≡ arrive_from (cells 4 v.now) }
-{
-    Move::Arrive {
-        rid: v[0],
-        prog: v[1],
-        a: v[2],
-        b: v[3],
-    }
+// A line that was read.
+#[derive(Clone, Copy)]
+pub(crate) enum ScheduleLine {
+    Arrive(Arrival),
+    Turn(u16),
 }
 
-fn turn_from(v: &[u64; 6]) -> Move
-    ensures { result ≡ turn_from (cells 1 v.now) }
-{
-    Move::Turn { rid: v[0] }
+// A line as it is kept: a turn with its rid, or an arrival with its place among the arrivals.
+#[derive(Clone, Copy)]
+enum Kept {
+    Turn(u16),
+    Arrival(u8),
 }
 
-// Row m of arrivals becomes x, where x is an arrival.
-fn put_arrival(arrivals: &mut [u64; ARRIVAL_ROWS], m: usize, x: Move)
-    ensures { arrivals.new ≡ with_arrival arrivals.old m x }
-{
-    let Move::Arrive { rid, prog, a, b } = x else {
-        return;
-    };
-    let k = m % ARRIVALS * ARRIVAL_ROW;
-    arrivals[k] = rid;
-    arrivals[k + 1] = prog;
-    arrivals[k + 2] = a;
-    arrivals[k + 3] = b;
-}
+// By hand, since a derive takes only a variant without fields.
+impl Default for Kept {
+    ghost use Rattle.text.specs.declared.schedule.Kept.TheVariants.{Turn};
 
-// The number that is kept for a line.
-fn code_of(m: usize, x: Move) -> u32
-    ensures { result ≡ move_code m x }
-{
-    match x {
-        Move::Arrive { .. } => FIRST_ARRIVAL + (m % ARRIVALS) as u32,
-        Move::Turn { rid } => (rid % RIDS) as u32,
+    ghost is_default = { λ k. k ≡ Turn 0 };
+
+    fn default() -> Self {
+        Kept::Turn(0)
     }
 }
 
-// Line i becomes x, and where x is an arrival, row m of arrivals is its own.
-pub fn put_move(
-    moves: &mut [u32; MOVES],
-    arrivals: &mut [u64; ARRIVAL_ROWS],
-    i: usize,
-    m: usize,
-    x: Move,
-)
-    requires { length moves.old ≡ 9362 }
-    ensures moves_after { moves.new ≡ with_move moves.old i m x }
-    ensures arrivals_after { arrivals.new ≡ with_arrival arrivals.old m x }
-{
-    put_arrival(arrivals, m, x);
-    if i < MOVES {
-        moves[i] = code_of(m, x);
-    }
+#[derive(Drop)]
+pub struct Schedule {
+    lines: ArrayVec<Kept, MOVES>,
+    arrivals: ArrayVec<Arrival, ARRIVALS>,
 }
 
-// Line i of a schedule that was read.
-pub fn move_at(moves: &[u32; MOVES], arrivals: &[u64; ARRIVAL_ROWS], i: usize) -> Move
-    requires { length moves.now ≡ 9362 }
-    ensures { result ≡ move_at moves.now arrivals.now i }
-{
-    if MOVES <= i {
-        return Move::Turn { rid: 0 };
-    }
-    let code = number_of(moves[i]);
-    if code < RIDS {
-        return Move::Turn { rid: code };
-    }
-    let k = (code % ARRIVAL_NUMBERS) as usize * ARRIVAL_ROW;
-    Move::Arrive {
-        rid: arrivals[k],
-        prog: arrivals[k + 1],
-        a: arrivals[k + 2],
-        b: arrivals[k + 3],
-    }
-}
-
-// Reads a schedule into moves and arrivals.
-pub fn read_schedule(
-    s: &[u8],
-    moves: &mut [u32; MOVES],
-    arrivals: &mut [u64; ARRIVAL_ROWS],
-) -> Lines
-    requires { (length moves.old ≡ 9362) × (length arrivals.old ≡ 256) }
-    ensures { ScheduleIs s.now result moves.new arrivals.new }
-{
-    if TEXT_BYTES < s.len() {
-        return Lines::Unreadable(0);
-    }
-    let mut v = [0u64; 6];
-    let mut m: usize = 0;
-    let mut n: usize = 0;
-    let mut at: usize = 0;
-    while at < s.len() {
-        let line = n + 1;
-        let Line::Known(k, e) = schedule_line(s, at, &mut v) else {
-            return Lines::Unreadable(line);
-        };
-        if s.len() <= e {
-            return Lines::Unreadable(line);
-        }
-        match k {
-            0 => {
-                if ARRIVALS <= m {
-                    return Lines::Unreadable(line);
-                }
-                put_move(moves, arrivals, n, m, arrive_from(&v));
-                m += 1;
-                n += 1;
-                at = e + 1;
-            }
-            _ => {
-                put_move(moves, arrivals, n, m, turn_from(&v));
-                n += 1;
-                at = e + 1;
-            }
+impl Schedule {
+    // One with no line.
+    #[tactic(auto, unfolding(crate::specs::Held::moves_in))]
+    pub fn new() -> Schedule
+        ensures { moves_in result ≡ [] }
+    {
+        Schedule {
+            lines: ArrayVec::new(),
+            arrivals: ArrayVec::new(),
         }
     }
-    Lines::Readable(n)
+
+    #[tactic(auto, unfolding(crate::specs::Held::moves_in))]
+    pub fn len(&self) -> usize
+        ensures count { result ≡ length (moves_in self.now) }
+        ensures few { result ≤ most_moves }
+    {
+        self.lines.len()
+    }
+
+    // Line i, counted from 0; past the last a turn of request 0.
+    pub fn move_at(&self, i: usize) -> Move
+        ensures line { result ≡ get_or (moves_in self.now) i no_move }
+        ensures turn { TurnIn result }
+    {
+        match self.line(i) {
+            Some(Kept::Turn(rid)) => Move::Turn {
+                rid: u64::from(rid),
+            },
+            Some(Kept::Arrival(place)) => self.arrival(usize::from(place)),
+            None => Move::Turn { rid: 0 },
+        }
+    }
+
+    fn line(&self, i: usize) -> Option<Kept>
+        ensures { result ≡ slice_get self.now.lines.items i }
+    {
+        self.lines.get(i).copied()
+    }
+
+    fn arrival(&self, place: usize) -> Move
+        ensures { result ≡ arrival_at self.now.arrivals.items place }
+    {
+        let x = self.arrivals.get(place).copied().unwrap_or_default();
+        Move::Arrive {
+            rid: x.rid,
+            prog: x.prog,
+            a: x.a,
+            b: x.b,
+        }
+    }
+
+    fn clear(&mut self)
+        ensures moves { moves_in self.new ≡ [] }
+        ensures kept { ScheduleKept self.new 0 }
+    {
+        self.lines.clear();
+        self.arrivals.clear();
+    }
+
+    fn add_arrival(&mut self, x: Arrival) -> bool
+        ensures { ScheduleJoins (Arrived x) self.old self.new result }
+    {
+        let place = self.arrivals.len() as u8;
+        self.arrivals.try_push(x).is_ok() && self.lines.try_push(Kept::Arrival(place)).is_ok()
+    }
+}
+
+#[tactic(auto, unfolding(lines::specs::Place::found_in))]
+fn turn_at(s: &[u8], at: usize) -> Option<(ScheduleLine, usize)>
+    ensures { result ≡ line_by turned_from (line_at turn_line s.now at) }
+{
+    let (v, end) = line_at(s, at, b"turn=", &[MOST_RID])?;
+    let [rid] = v;
+    Some((ScheduleLine::Turn(rid as u16), end))
+}
+
+#[tactic(auto, unfolding(lines::specs::Place::found_in))]
+fn arrive_at(s: &[u8], at: usize) -> Option<(ScheduleLine, usize)>
+    ensures { result ≡ line_by arrived_from (line_at arrive_line s.now at) }
+{
+    let max = MOST_NUMBER;
+    let (v, end) = line_at(s, at, b"arrive=", &[MOST_RID, max, max, max])?;
+    let [rid, prog, a, b] = v;
+    Some((ScheduleLine::Arrive(Arrival { rid, prog, a, b }), end))
+}
+
+impl Line for ScheduleLine {
+    type Held = Schedule;
+
+    type Beside = ();
+
+    ghost use Rattle.std.specs.Prelude.{List, []};
+    ghost use Rattle.text.specs.Schedule.{schedule_kinds};
+    ghost use Rattle.text.specs.Steps.{schedule_adds};
+    ghost use Rattle.text.specs.declared.schedule.Move.{Move};
+
+    ghost read = { List Move };
+
+    ghost kinds = { schedule_kinds };
+
+    ghost nothing = { [] };
+
+    ghost adds = { schedule_adds };
+
+    ghost least = { 7 };
+
+    ghost held = { λ schedule _. moves_in schedule };
+
+    ghost kept = { λ schedule _ at. ScheduleKept schedule at };
+
+    // Most are turns, which are tried first.
+    fn line_at(s: &[u8], at: usize) -> Option<(Self, usize)> {
+        turn_at(s, at).or_else(|| arrive_at(s, at))
+    }
+
+    fn join(self, schedule: &mut Schedule, _beside: &mut ()) -> bool {
+        match self {
+            ScheduleLine::Arrive(x) => schedule.add_arrival(x),
+            ScheduleLine::Turn(rid) => schedule.lines.try_push(Kept::Turn(rid)).is_ok(),
+        }
+    }
+}
+
+// Reads a schedule.
+#[tactic(auto, unfolding(crate::specs::Schedule::read_schedule))]
+pub fn read_schedule(s: &[u8], schedule: &mut Schedule) -> Result<(), BadLine>
+    ensures { read_in result (moves_in schedule.new) ≡ read_schedule s.now }
+{
+    schedule.clear();
+    read_lines::<ScheduleLine>(s, schedule, &mut ())
 }

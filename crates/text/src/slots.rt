@@ -1,56 +1,57 @@
 // The `of` line of a rid, which is its request's slot. A search begins at the first line of the rid's bucket, so that it seldom looks at a
 // second line.
-ghost use Rattle.std.specs.Prelude.{◌≡◌, ◌≤◌, min, eqb, get_or};
+ghost use Rattle.std.specs.Prelude.{◌≡◌, ◌≤◌, length, eqb, get_or};
 ghost use Rattle.basics.specs.Scans.{FirstFrom};
-ghost use Rattle.text.specs.Formats.{most_ofs};
 ghost use Rattle.text.specs.Held.{of_at};
-ghost use Rattle.text.specs.Slots.{slot_bucket, Slots};
+ghost use Rattle.text.specs.Slots.{slot_bucket, Slots as FirstSlots};
 
-use crate::limits::{OF_ROWS, OFS};
-use crate::report::of_at;
-use basics::{index_of_byte, least};
+use crate::limits::OFS;
+use crate::report::{Of, Ofs};
 
 // Rids fall into so many buckets, by their remainder.
-pub const SLOT_BUCKETS: usize = 256;
+const BUCKETS: usize = 256;
 
-const SLOT_REMAINDERS: u64 = SLOT_BUCKETS as u64;
-
-// Stands where a bucket has no line.
+// Stands where a bucket has no line: a byte for each bucket, where an Option takes two. (No From narrows to a byte, and usize has none for u64.)
 const NO_SLOT: u8 = OFS as u8;
+
+// The first `of` line in each bucket of rids, NO_SLOT where there is none.
+#[derive(Clone, Copy)]
+pub struct Slots {
+    pub heads: [u8; BUCKETS],
+}
 
 fn bucket(rid: u64) -> usize
     ensures { result ≡ slot_bucket rid }
 {
-    (rid % SLOT_REMAINDERS) as usize
+    rid as usize % BUCKETS
 }
 
-// The first of m `of` lines in each bucket of rids, NO_SLOT where there is none: one pass from the back.
-pub fn first_slots(ofs: &[u64; OF_ROWS], m: usize) -> [u8; SLOT_BUCKETS]
-    ensures { Slots ofs.now (min m most_ofs) result }
-{
-    let mut heads = [NO_SLOT; SLOT_BUCKETS];
-    let mut i = least(m, OFS);
-    while 0 < i {
-        i -= 1;
-        let x = of_at(ofs, i);
-        let b = bucket(x.rid);
-        heads[b] = i as u8;
-    }
-    heads
-}
-
-// The `of` line of a rid, from the head of its bucket on; or m.
-pub fn slot_of(ofs: &[u64; OF_ROWS], m: usize, heads: &[u8; SLOT_BUCKETS], rid: u64) -> usize
-    ensures within { result ≤ m }
-    ensures first { FirstFrom (λ i. eqb (of_at ofs.now i).rid rid) (get_or heads.now (slot_bucket rid) 0) m result }
-{
-    let mut i = index_of_byte(heads[bucket(rid)]);
-    while i < m {
-        let x = of_at(ofs, i);
-        if x.rid == rid {
-            return i;
+impl Slots {
+    // One pass from the back.
+    pub fn of(ofs: &Ofs) -> Slots
+        ensures { FirstSlots ofs.now.items result.heads }
+    {
+        let mut heads = [NO_SLOT; BUCKETS];
+        // i is what is kept.
+        for i in (0..ofs.len()).rev() {
+            heads[bucket(ofs[i].rid)] = i as u8;
         }
-        i += 1;
+        Slots { heads }
     }
-    m
+
+    // The `of` line of a rid, from the head of its bucket on; or the number of lines, a number and no Option, as clause `within` has it.
+    // It promises this of any lines and heads, so the lines are lent to it and no invariant binds them to the heads.
+    pub fn slot_of(&self, ofs: &[Of], rid: u64) -> usize
+        ensures within { result ≤ length ofs.now }
+        ensures first { FirstFrom (λ i. eqb (of_at ofs.now i).rid rid) (get_or self.now.heads (slot_bucket rid) 0) (length ofs.now) result }
+    {
+        let head = usize::from(self.heads[bucket(rid)]);
+        // The head may lie behind the lines, where no slice begins.
+        for i in head..ofs.len() {
+            if ofs[i].rid == rid {
+                return i;
+            }
+        }
+        ofs.len()
+    }
 }

@@ -1,15 +1,12 @@
 -- The sum of a buffer from a place on.
-use Rattle.std.proofs.Common.{◌≡◌, ℕ, ◌+◌, ◌*◌, ◌%◌, ◌<◌, ◌≤◌, List, length, get_or, drop, refl, sym, ◌∙◌, add-one, drop_of_length-le, drop-cons}
+use Rattle.std.proofs.Common.{◌≡◌, ℕ, ◌+◌, ◌*◌, ◌%◌, ◌<◌, ◌≤◌, List, length, get_or, drop, refl, add-one, drop_of_length-le, drop-cons}
 use Rattle.vectors.specs.Sums.{sum_of}
 
-sum_cons : (s : List ℕ) (i h : ℕ) → i < length s →
-    sum_of h (drop i s) ≡ sum_of ((h * 257 + get_or s i 0) % 4294967291) (drop (i + 1) s)
+-- one byte more, b
+pub sum_step : (s : List ℕ) (i h b : ℕ) → i < length s → b ≡ get_or s i 0 →
+    sum_of ((h * 257 + b) % 4294967291) (drop (i + 1) s) ≡ sum_of h (drop i s)
 unfolding sum_of
-sum_cons s i h g = rw (drop-cons s i 0 g, add-one) refl
-
-pub sum_step : (s : List ℕ) (i h : ℕ) {b t : ℕ} → i < length s → b ≡ get_or s i 0 → sum_of h (drop i s) ≡ t →
-    sum_of ((h * 257 + b) % 4294967291) (drop (i + 1) s) ≡ t
-sum_step s i h g e p = rw e (sym (sum_cons s i h g) ∙ p)
+sum_step s i h b g e = rw (drop-cons s i 0 g, add-one, e) refl
 
 pub sum_end : (s : List ℕ) (i h : ℕ) → length s ≤ i → sum_of h (drop i s) ≡ h
 unfolding sum_of

@@ -1,3 +1,2 @@
 -- The definitions.
-pub mod Headers
 pub mod Sums

@@ -1,51 +1,42 @@
 // What batches and schedules share: the header of a vector, the parts of a file, and the line that is printed.
-ghost use Rattle.std.specs.Prelude.{◌≡◌, ◌+◌, min, length};
-ghost use Rattle.vectors.specs.Headers.{EndsWithin};
+ghost use Rattle.std.specs.Prelude.{◌≡◌, ◌-◌, ◌<◌, length, IfSome};
 
 use files::write_front;
-use lines::{Fields, Place, Put, line_at, put_line};
+use lines::{line_at, put_line};
 use verifier::TEXT_ROOM;
 
 // No text of a vector is longer, nor a buffer that is lent for one.
 const MOST_LENGTH: u64 = TEXT_ROOM as u64;
 
-// Where the name of a vector ends and where its header; or it has none.
-#[derive(Drop)]
-pub enum Header {
-    Ends(usize, usize),
-    Unreadable,
+// The name of a vector, with its '=', and what stands behind its header.
+#[derive(Clone, Copy, Debug, PartialEq, Eq)]
+pub(crate) struct Header<'a> {
+    pub name: &'a [u8],
+    pub rest: &'a [u8],
 }
 
-// Where n bytes from start on end, or the end of s where there are fewer.
-pub(crate) fn end_of(s: &[u8], start: usize, n: usize) -> usize
-    ensures { result ≡ min (start + n) (length s.now) }
+// The first n bytes of s, or all, and those behind them.
+pub(crate) fn part(s: &[u8], n: usize) -> (&[u8], &[u8])
+    ensures { length result.1.now ≡ length s.now - n }
 {
-    if s.len() < start {
-        return s.len();
-    }
-    if s.len() - start < n {
-        return s.len();
-    }
-    start + n
+    s.split_at(n.min(s.len()))
 }
 
-// The header at the front of s, with n numbers, which go into v.
-pub(crate) fn read_header(s: &[u8], n: usize, v: &mut [u64; 6]) -> Header
-    ensures { EndsWithin (length s.now) result }
+// The header at the front of s, and its numbers. (As sizes they are cast: usize has no From for a u64.)
+pub(crate) fn read_header<'a, const N: usize>(s: &'a [u8]) -> Option<(Header<'a>, [u64; N])>
+    ensures { IfSome result (λ h. 0 < length s.now → length h.0.rest.now < length s.now) }
 {
     let equals = s.iter().position(|b| *b == b'=').unwrap_or(s.len());
-    let name = end_of(s, equals, 1);
-    let most = [MOST_LENGTH; 6];
-    match line_at(s, 0, &s[0..name], n, &most, v) {
-        Place::At(e) => Header::Ends(name, end_of(s, e, 1)),
-        Place::Nowhere => Header::Unreadable,
-    }
+    let (name, _) = part(s, equals.saturating_add(1));
+    let (numbers, end) = line_at(s, 0, name, &[MOST_LENGTH; N])?;
+    let (_, rest) = part(s, end.saturating_add(1));
+    Some((Header { name, rest }, numbers))
 }
 
 // Prints a line: a name and numbers.
-pub(crate) fn print_line(rt: &HostRuntime, name: &[u8], f: Fields) {
+pub(crate) fn print_line(rt: &HostRuntime, name: &[u8], numbers: &[u64]) {
     let mut out = [0u8; 256];
-    let Put::Wrote(n) = put_line(&mut out, name, f) else {
+    let Some(n) = put_line(&mut out, name, numbers) else {
         let _ = eprintln!(rt; "a name is too long");
         return;
     };

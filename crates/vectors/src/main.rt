@@ -11,47 +11,43 @@ mod checksums;
 mod containers;
 mod schedules;
 
-ghost use Rattle.std.specs.Prelude.{◌≤◌, length};
+ghost use Rattle.std.specs.Prelude.{◌<◌, length, IfSome};
 
 use batches::run_batch;
-use files::{BUFFER_BYTES, Got, front, read_file};
+use files::{BUFFER_BYTES, Unread, front, read_file};
 use schedules::run_schedule;
 
-// Runs the vector at the front of s: how many bytes it takes, or 0 where it cannot be read.
-fn run_vector(rt: &HostRuntime, s: &[u8]) -> usize
-    ensures { result ≤ length s.now }
+// Runs the vector at the front of s: what stands behind it, or None where it cannot be read.
+fn run_vector<'a>(rt: &HostRuntime, s: &'a [u8]) -> Option<&'a [u8]>
+    ensures { IfSome result (λ r. 0 < length s.now → length r.now < length s.now) }
 {
-    let used = run_batch(rt, s);
-    if used != 0 {
-        return used;
-    }
-    run_schedule(rt, s)
+    run_batch(rt, s).or_else(|| run_schedule(rt, s))
 }
 
 // Runs the vectors of s, one after the other.
 fn run_vectors(rt: &HostRuntime, s: &[u8]) {
     let mut rest = s;
-    while 0 < rest.len() {
-        let used = run_vector(rt, rest);
-        if used == 0 {
+    // Each vector says where the next begins.
+    while !rest.is_empty() {
+        let Some(behind) = run_vector(rt, rest) else {
             let _ = eprintln!(rt; "a header is unreadable");
             return;
-        }
-        rest = &rest[used..];
+        };
+        rest = behind;
     }
 }
 
 // Runs the vectors of a file. Where it is missing or cannot be read, lines are missing from what is printed.
-fn run_file(rt: &HostRuntime, path: &[u8]) {
+fn run_file(rt: &HostRuntime, path: &[u8]) -> Result<(), Unread> {
     let mut buf = [0u8; BUFFER_BYTES];
-    let Got::Bytes(n) = read_file(rt, path, &mut buf) else {
-        return;
-    };
+    let n = read_file(rt, path, &mut buf)?;
     run_vectors(rt, front(&buf, n));
+    Ok(())
 }
 
+// A file that cannot be read keeps no other from being run.
 fn main(rt: HostRuntime) {
-    run_file(&rt, b"vectors-1.txt");
-    run_file(&rt, b"vectors-2.txt");
-    run_file(&rt, b"vectors-3.txt");
+    let _ = run_file(&rt, b"vectors-1.txt");
+    let _ = run_file(&rt, b"vectors-2.txt");
+    let _ = run_file(&rt, b"vectors-3.txt");
 }

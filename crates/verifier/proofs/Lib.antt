@@ -3,6 +3,7 @@ pub mod ReportRanges
 pub mod Rows4To7
 pub mod Rows8To12
 pub mod Verdicts
+pub mod Refusals
 pub mod PrintedLines
 -- Demand 3 for texts
 pub mod Acceptance

@@ -7,7 +7,7 @@ use lib.ListN.{length, length-append}
 use Rattle.lines.specs.Bytes.{bytes}
 use Rattle.lines.specs.LineText.{numbers_text, line_text}
 use Rattle.lines.specs.Put.{PutIs, written_of}
-use Rattle.lines.specs.declared.writer.Put.{Put}
+use Rattle.std.proofs.Common.{Option}
 use Rattle.lines.proofs.LineTexts.{line-length, numbers_apart}
 use Rattle.lines.proofs.Puts.{put-done}
 use Rattle.writing.specs.Order.{items_text}
@@ -83,7 +83,7 @@ module _ (programs trace report : List ℕ) where
         )
 
     -- n of its numbers were written to an array
-    module _ (before items : List ℕ) (q : Put) (n : ℕ) (room : length before ≡ 2304) (d : PutIs (order_numbers 1 order) before items q)
+    module _ (before items : List ℕ) (q : Option ℕ) (n : ℕ) (room : length before ≡ 2304) (d : PutIs (order_numbers 1 order) before items q)
         (w : n ≡ written_of q) where
       items-printed : items_text items (min (n / 2) 1152) ≡ order_text 1 order
       items-printed =
@@ -94,7 +94,7 @@ module _ (programs trace report : List ℕ) where
           ap (items_text items) k ∙ ap (λ t. items_text t (length order)) done.1
           ∙ order-lines order before (order-numbered programs trace report)
 
-      pub text-put : (o p : List ℕ) (r : Put) → PutIs (audited_text a ++ items_text items (min (n / 2) 1152)) o p r →
+      pub text-put : (o p : List ℕ) (r : Option ℕ) → PutIs (audited_text a ++ items_text items (min (n / 2) 1152)) o p r →
           PutIs (printed_text programs trace report) o p r
       unfolding printed_text
       text-put o p r h = subst (λ t. PutIs t o p r) (λ i. audited_text (e i) ++ items-printed i) h

@@ -7,15 +7,12 @@ use native.Mathlib.Omega.{arith}
 use lib.Dec.{ltb}
 use lib.ListN.{length}
 use Rattle.basics.specs.Count.{count}
-use Rattle.text.specs.Held.{report_in, ReportIs, ofs_in, logs_in, report_of}
 use Rattle.text.specs.Programs.{known}
 use Rattle.text.specs.Report.{Report, no_lines, read_report}
 use Rattle.text.specs.Text.{Read, readable, unreadable}
 use Rattle.text.specs.Trace.{is_request}
 use Rattle.text.specs.declared.programs.Program.{Program}
 use Rattle.text.specs.declared.report.Of.{Of}
-use Rattle.text.specs.declared.report.ReportLines.TheVariants.{Counts, BadLine}
-use Rattle.text.specs.declared.report.ReportLines.{ReportLines}
 use Rattle.text.specs.declared.trace.Event.TheVariants.{Request, Response}
 use Rattle.text.specs.declared.trace.Event.{Event}
 use Rattle.model.specs.Audit.{from8, from6, from4}
@@ -27,13 +24,9 @@ use Rattle.model.proofs.Scans.{holds, passes}
 use Rattle.model.proofs.Trace.{Matching}
 use Rattle.machine.specs.Instance.{machine_of}
 use Rattle.machine.specs.Objects.{Content}
-use Rattle.replay.specs.Arrays.{arrays}
 use Rattle.verifier.specs.Faults.{audited}
-use Rattle.verifier.specs.Steps.{refusal, events_in, audited_report, audited_trace, ReportChecked, BatchChecked}
+use Rattle.verifier.specs.Steps.{refusal, audited_report, audited_trace}
 use Rattle.verifier.specs.declared.Audited.{Audited}
-use Rattle.verifier.specs.declared.audits.Checked.{Checked}
-use Rattle.verifier.specs.declared.audits.Checked.TheVariants.{Refused}
-use Rattle.verifier.specs.declared.audits.Checked.TheVariants as checked
 
 -- ── rows 6 and 7 ──
 -- one `of` line for each request
@@ -94,43 +87,27 @@ pub known_in : (table : List Program) (k : ℕ) (events : List Event) (o : Optio
     row4 (known table) events ≡ o
 known_in table k events o l e = ap (λ n. row4 (λ prog. ltb prog n) events) l ∙ e
 
--- what the reader of the report says
-module _ (s : List ℕ) (r : ReportLines) (ofs logs : List ℕ) (h : ReportIs s r ofs logs) where
-  report-bad : (line : ℕ) → r ≡ BadLine line → read_report s ≡ unreadable line
-  unfolding report_in
-  report-bad line e = sym h.read ∙ ap (report_in ofs logs) e
-
-  module _ (m n : ℕ) (e : r ≡ Counts m n) where
-    report-read : read_report s ≡ readable (report_of ofs m logs n)
-    unfolding report_in
-    report-read = sym h.read ∙ ap (report_in ofs logs) e
-
-    pub report-few : (m ≤ 64) × (n ≤ 1024)
-    report-few = (subst (λ r. ofs_in r ≤ 64) e h.few_ofs, subst (λ r. logs_in r ≤ 1024) e h.few_entries)
-
 -- ── rows 4 to 7, where k programs are known ──
-module _ (k : ℕ) (held : List ℕ) (t : ℕ) (s : List ℕ) where
-  pub refused-4 : (line : ℕ) → row4 (λ prog. ltb prog k) (events_in held t) ≡ some line →
-      (opening : ℕ → Content) (table : List Program) → length table ≡ k → refusal 4 line ≡ audited_trace opening table (events_in held t) (read_report s)
-  refused-4 line e opening table l = at-4 opening table (events_in held t) (read_report s) line (known_in table k (events_in held t) (some line) l e)
+module _ (k : ℕ) (events : List Event) (s : List ℕ) where
+  -- a refusal is that of any k programs, and of any contents at the start
+  abbrev Refuses : (row line : ℕ) → Type 0
+  Refuses row line =
+      (opening : ℕ → Content) (table : List Program) → length table ≡ k → refusal row line ≡ audited_trace opening table events (read_report s)
 
-  module _ (d : row4 (λ prog. ltb prog k) (events_in held t) ≡ none) (r : ReportLines) (ofs logs : List ℕ) (h : ReportIs s r ofs logs) where
-    pub refused-5 : (line : ℕ) → r ≡ BadLine line →
-        (opening : ℕ → Content) (table : List Program) → length table ≡ k → refusal 5 line ≡ audited_trace opening table (events_in held t) (read_report s)
-    refused-5 line e opening table l =
-        at_5 opening table (events_in held t) (read_report s) (known_in table k (events_in held t) none l d) line (report-bad s r ofs logs h line e)
+  pub refused-4 : (line : ℕ) → row4 (λ prog. ltb prog k) events ≡ some line → Refuses 4 line
+  refused-4 line e opening table l = at-4 opening table events (read_report s) line (known_in table k events (some line) l e)
 
-    pub past-report : (m n : ℕ) → r ≡ Counts m n → (c : Checked) → ReportChecked (arrays held t ofs m logs n) c →
-        BatchChecked k held t s ofs logs c
-    past-report m n e (Refused row line) g =
-        (g.0, λ opening table l. g.1 opening table ∙ past-5 opening table (events_in held t) (read_report s) (known_in table k (events_in held t) none l d) _ (report-read s r ofs logs h m n e))
-    past-report m n e (checked.Counts p q) g =
-        let b = report-few s r ofs logs h m n e in
-        rw (g.0, g.1)
-        (record {
-          lines4 = d;
-          read = report-read s r ofs logs h m n e;
-          few_ofs = b.0;
-          few_entries = b.1;
-          unbroken = g.2;
-        })
+  module _ (d : row4 (λ prog. ltb prog k) events ≡ none) where
+    pub refused-5 : (line : ℕ) → read_report s ≡ unreadable line → Refuses 5 line
+    refused-5 line e opening table l = at_5 opening table events (read_report s) (known_in table k events none l d) line e
+
+    module _ (lines : Report) (e : read_report s ≡ readable lines) where
+      past : (opening : ℕ → Content) (table : List Program) → length table ≡ k →
+          audited_report opening table events lines ≡ audited_trace opening table events (read_report s)
+      past opening table l = past-5 opening table events (read_report s) (known_in table k events none l d) lines e
+
+      pub refused-6 : (line : ℕ) → row6 (batch_of events lines) ≡ some line → Refuses 6 line
+      refused-6 line g opening table l = at-6 opening table events lines line g ∙ past opening table l
+
+      pub refused-7 : row6 (batch_of events lines) ≡ none → (line : ℕ) → row7 (batch_of events lines) ≡ some line → Refuses 7 line
+      refused-7 g line i opening table l = at_7 opening table events lines g line i ∙ past opening table l

@@ -11,7 +11,7 @@ pub use printing::{PRINTED, audit_text};
 pub use text::TEXT_ROOM;
 
 // What the audit finds: the number of the verdict with its line, and on acceptance how many `request` and how many `log` lines there are, the
-// latter also in whole hundreds and what is left over.
+// latter also in whole hundreds and what is left over. Numbers, as they are printed and handed to C.
 #[derive(Clone, Copy)]
 pub struct Audited {
     pub verdict: u64,

@@ -1,5 +1,3 @@
-pub mod Texts
-pub mod TraceWriting
+pub mod LineLists
 pub mod OrderWriting
-pub mod ReportWriting
 pub mod VerdictTexts

@@ -1,21 +1,12 @@
--- The writer of an order.
-use Prim.Native.Nat.{ℕ, ◌+◌, min}
-use mathlib.Core.Bool.{Bool, cond}
-use mathlib.Core.List.{List, [], ◌∷◌}
-use mathlib.Core.Path.{◌≡◌, sym, ◌∙◌, ap, subst}
-use borrow.Author.Tests.{eq-eqb, ne_eqb}
-use lib.ListN.{length, take}
-use Rattle.lines.specs.Bytes.{bytes}
-use Rattle.lines.specs.LineText.{numbers_text, line_text}
-use Rattle.lines.specs.Put.{PutIs}
-use Rattle.lines.specs.declared.writer.Fields.{Fields}
-use Rattle.lines.specs.declared.writer.Put.{Put}
-use Rattle.lines.proofs.LineTexts.{line-length}
-use Rattle.writing.specs.Order.{event_item, operation_item, item_text, item_at, items_text}
-use Rattle.writing.specs.Steps.{texts, item_line, item_fields}
+-- The items of an order as they stand in an array.
+use Rattle.std.proofs.Common.{◌≡◌, ℕ, zero, suc, ◌+◌, ◌*◌, ◌≤◌, Bool, cond, List, ◌∷◌, length, take, drop, sym, refl, ap, arith, get_or-drop, get_or-take, eq-eqb, ne_eqb}
+use Rattle.basics.specs.Firsts.{firsts}
+use Rattle.basics.proofs.Firsts.{firsts_same, firsts-front}
+use Rattle.text.specs.Written.{lines_text}
+use Rattle.writing.specs.Order.{event_item, operation_item, item_text, item_of, item_at, items_text, rows}
 use Rattle.writing.specs.declared.orders.Item.{Item}
-use Rattle.writing.proofs.Texts.{lines-texts}
 
+-- the line of an item
 module _ (x : Item) where
   pub event-text : x.num ≡ 0 → event_item x.id ≡ item_text x
   unfolding item_text
@@ -25,27 +16,33 @@ module _ (x : Item) where
   unfolding item_text
   operation-text h = sym (ap (λ (t : Bool). cond t (event_item x.id) (operation_item x.id x.num)) (ne_eqb x.num 0 h))
 
-  -- how long the lines are
-  pub event-length : x.num ≡ 0 → length (item_text x) ≡ 6 + length (numbers_text (x.id ∷ []))
-  unfolding event_item
-  event-length e = ap length (sym (event-text e)) ∙ line-length (bytes "event=") (x.id ∷ [])
+-- the first of the rows
+pub take-rows : (items : List ℕ) (m n : ℕ) → m ≤ n → take m (rows items n) ≡ rows items m
+take-rows items zero n h = refl
+take-rows items (suc m) zero h = absurd (omega arith)
+take-rows items (suc m) (suc n) h = ap (λ l. take 2 items ∷ l) (take-rows (drop 2 items) m n (omega arith))
 
-  pub operation-length : (x.num ≡ 0 → ⊥) → length (item_text x) ≡ 3 + length (numbers_text (x.id ∷ x.num ∷ []))
-  unfolding operation_item
-  operation-length h = ap length (sym (operation-text h)) ∙ line-length (bytes "op=") (x.id ∷ x.num ∷ [])
+pub length-rows : (items : List ℕ) (n : ℕ) → length (rows items n) ≡ n
+length-rows items zero = refl
+length-rows items (suc n) = ap suc (length-rows (drop 2 items) n)
 
-  -- and what writes them
-  module _ (o p : List ℕ) (r : Put) where
-    pub event-put : x.num ≡ 0 → PutIs (line_text (bytes "event=") (x.id ∷ [])) o p r → PutIs (item_text x) o p r
-    unfolding event_item
-    event-put e h = subst (λ t. PutIs t o p r) (event-text e) h
+item-first : (items : List ℕ) → item_of (take 2 items) ≡ item_at items 0
+item-first items = rw (get_or-take 2 items 0 0 (omega arith), get_or-take 2 items 1 0 (omega arith)) refl
 
-    pub operation-put : (x.num ≡ 0 → ⊥) → (f : Fields) → f ≡ item_fields x → PutIs (line_text (bytes "op=") (take f.n f.v)) o p r →
-        PutIs (item_text x) o p r
-    unfolding operation_item
-    operation-put n f e h = subst (λ t. PutIs t o p r) (ap (λ f. line_text (bytes "op=") (take f.n f.v)) e ∙ operation-text n) h
+item-next : (items : List ℕ) (i : ℕ) → item_at (drop 2 items) i ≡ item_at items (suc i)
+item-next items i =
+    let e : 2 + 2 * i ≡ 2 * suc i = omega arith in
+    let f : 2 + (2 * i + 1) ≡ 2 * suc i + 1 = omega arith in
+    rw (get_or-drop 2 items (2 * i) 0, get_or-drop 2 items (2 * i + 1) 0, e, f) refl
 
--- the first n items, where m is n or 1,152
-pub items-texts : (a : List ℕ) (m n : ℕ) → m ≡ min n 1152 → texts (item_line a) m ≡ items_text a (min n 1152)
-unfolding items_text
-items-texts a m n h = ap (texts (item_line a)) h ∙ sym (lines-texts item_text (item_at a) (min n 1152))
+-- the rows' lines are the items'
+pub rows-text : (items : List ℕ) (n : ℕ) → lines_text (λ r. item_text (item_of r)) (rows items n) ≡ items_text items n
+unfolding items_text lines_text firsts
+rows-text items zero = refl
+rows-text items (suc n) =
+    rw (
+      item-first items,
+      rows-text (drop 2 items) n,
+      firsts_same (item_at (drop 2 items)) (λ i. item_at items (suc i)) n (λ i h. item-next items i),
+      firsts-front (item_at items) n,
+    ) refl

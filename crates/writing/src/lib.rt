@@ -1,7 +1,8 @@
-// A trace and a report from the arrays of records, the verdict with its line, and an order, written to the front of a lent buffer.
+// A trace and a report from their records, the verdict with its line, and an order, written to the front of a lent buffer.
 #![tactic(auto)]
 
 mod orders;
+mod records;
 mod reports;
 mod traces;
 mod verdicts;

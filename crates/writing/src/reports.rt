@@ -1,111 +1,73 @@
 // Writing a report: how long it is, and its lines to the front of a lent buffer.
-ghost use Rattle.std.specs.Prelude.{◌≡◌, ◌+◌, ◌≤◌, min, length};
-ghost use Rattle.lines.specs.Put.{front, PutIs};
-ghost use Rattle.text.specs.Formats.{most_entries, most_ofs};
-ghost use Rattle.text.specs.Written.{report_text};
+ghost use Rattle.std.specs.Prelude.{◌≡◌, length};
+ghost use Rattle.lines.specs.Put.{PutIs};
 ghost use Rattle.text.specs.Held.{report_of};
-ghost use Rattle.writing.specs.Steps.{texts, report_line, of_fields, entry_fields};
+ghost use Rattle.text.specs.Written.{report_text};
 
-use basics::least;
-use lines::{Fields, Put, numbers_width, put_line, written};
-use text::{ENTRIES, ENTRY_ROWS, Entry, OF_ROWS, OFS, Of, entry_at, of_at};
+use crate::records::{Line, fill, widths};
+use lines::{numbers_width, put_line};
+use text::{Entry, Log, Of, Ofs};
 
-fn of_fields(o: Of) -> Fields
-    ensures { result ≡ of_fields o }
-{
-    Fields {
-        n: 3,
-        v: [o.rid, o.group, o.count, 0, 0, 0],
+impl Line for Of {
+    ghost use Rattle.std.proofs.Common.{lit≤};
+    ghost use Rattle.text.specs.Written.{of_text};
+
+    ghost text = { of_text };
+
+    ghost most = { 129 };
+
+    ghost short = { lit≤ tt };
+
+    #[tactic(auto, using(crate::proofs::LineLists::line_lengths), unfolding(text::specs::Written::of_text))]
+    fn width(&self) -> usize {
+        3 + numbers_width(&[self.rid, self.group, self.count])
+    }
+
+    #[tactic(auto, unfolding(text::specs::Written::of_text))]
+    fn put(&self, out: &mut [u8]) -> Option<usize> {
+        put_line(out, b"of=", &[self.rid, self.group, self.count])
     }
 }
 
-fn entry_fields(l: Entry) -> Fields
-    ensures { result ≡ entry_fields l }
-{
-    Fields {
-        n: 6,
-        v: [l.op.object, l.rid, l.num, l.op.kind, l.op.key, l.op.value],
+impl Line for Entry {
+    ghost use Rattle.std.proofs.Common.{lit≤};
+    ghost use Rattle.text.specs.Written.{entry_text};
+
+    ghost text = { entry_text };
+
+    ghost most = { 130 };
+
+    ghost short = { lit≤ tt };
+
+    #[tactic(auto, using(crate::proofs::LineLists::line_lengths), unfolding(text::specs::Written::entry_text))]
+    fn width(&self) -> usize {
+        let x = self.op;
+        4 + numbers_width(&[x.object, self.rid, self.num, x.kind, x.key, x.value])
+    }
+
+    #[tactic(auto, unfolding(text::specs::Written::entry_text))]
+    fn put(&self, out: &mut [u8]) -> Option<usize> {
+        let x = self.op;
+        let numbers = [x.object, self.rid, self.num, x.kind, x.key, x.value];
+        put_line(out, b"log=", &numbers)
     }
 }
 
-// How long line i of a report with m `of` lines is.
-fn line_width(ofs: &[u64; OF_ROWS], m: usize, logs: &[u64; ENTRY_ROWS], i: usize) -> usize
-    ensures value { result ≡ length (report_line ofs.now m logs.now i) }
-    ensures upper_bound { result ≤ 130 }
+// How long the `of` and the `log` lines are as a text.
+#[tactic(auto, unfolding(text::specs::Written::report_text))]
+pub fn report_width(ofs: &Ofs, log: &Log) -> usize
+    ensures { result ≡ length (report_text (report_of ofs.now.items log.now.items)) }
 {
-    if i < m {
-        return 3 + numbers_width(of_fields(of_at(ofs, i)));
-    }
-    4 + numbers_width(entry_fields(entry_at(logs, i - m)))
-}
-
-fn put_report_line(
-    out: &mut [u8],
-    ofs: &[u64; OF_ROWS],
-    m: usize,
-    logs: &[u64; ENTRY_ROWS],
-    i: usize,
-) -> Put
-    ensures { PutIs (report_line ofs.now m logs.now i) out.old out.new result }
-{
-    if i < m {
-        return put_line(out, b"of=", of_fields(of_at(ofs, i)));
-    }
-    put_line(out, b"log=", entry_fields(entry_at(logs, i - m)))
-}
-
-// How long the first n lines of a report with m `of` lines are.
-fn widths(ofs: &[u64; OF_ROWS], m: usize, logs: &[u64; ENTRY_ROWS], n: usize) -> usize
-    requires { n ≤ most_ofs + most_entries }
-    ensures { result ≡ length (texts (report_line ofs.now m logs.now) n) }
-{
-    let mut at: usize = 0;
-    let mut i: usize = 0;
-    while i < n {
-        at += line_width(ofs, m, logs, i);
-        i += 1;
-    }
-    at
-}
-
-fn fill(out: &mut [u8], ofs: &[u64; OF_ROWS], m: usize, logs: &[u64; ENTRY_ROWS], n: usize) -> usize
-    requires { length (texts (report_line ofs.now m logs.now) n) ≤ length out.old }
-    ensures value { result ≡ length (texts (report_line ofs.now m logs.now) n) }
-    ensures out_after { out.new ≡ front (texts (report_line ofs.now m logs.now) n) out.old }
-{
-    let mut at: usize = 0;
-    let mut i: usize = 0;
-    while i < n {
-        let p = put_report_line(&mut out[at..], ofs, m, logs, i);
-        at += written(p);
-        i += 1;
-    }
-    at
-}
-
-// How long the first m `of` and the first n `log` lines are as a text, OFS and ENTRIES at most.
-pub fn report_width(ofs: &[u64; OF_ROWS], m: usize, logs: &[u64; ENTRY_ROWS], n: usize) -> usize
-    ensures { result ≡ length (report_text (report_of ofs.now (min m most_ofs) logs.now (min n most_entries))) }
-{
-    let k = least(m, OFS);
-    widths(ofs, k, logs, k + least(n, ENTRIES))
+    widths(ofs.as_slice()) + widths(log.as_slice())
 }
 
 // Writes them to the front of out, or nothing where out is too short.
-pub fn put_report(
-    out: &mut [u8],
-    ofs: &[u64; OF_ROWS],
-    m: usize,
-    logs: &[u64; ENTRY_ROWS],
-    n: usize,
-) -> Put
-    ensures { PutIs (report_text (report_of ofs.now (min m most_ofs) logs.now (min n most_entries)))
-        out.old out.new result }
+pub fn put_report(out: &mut [u8], ofs: &Ofs, log: &Log) -> Option<usize>
+    ensures { PutIs (report_text (report_of ofs.now.items log.now.items)) out.old out.new result }
 {
-    let k = least(m, OFS);
-    let l = k + least(n, ENTRIES);
-    if out.len() < widths(ofs, k, logs, l) {
-        return Put::Short;
+    if out.len() < report_width(ofs, log) {
+        return None;
     }
-    Put::Wrote(fill(out, ofs, k, logs, l))
+    let at = fill(out, ofs.as_slice());
+    Some(at + fill(&mut out[at..], log.as_slice()))
 }

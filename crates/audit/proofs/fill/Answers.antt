@@ -6,9 +6,9 @@ use Rattle.audit.proofs.fill.Goals as goal
 pub returns-clause-count : goal.returns-clause-count
 returns-clause-count c =
     let put = c.audit_text.ensures in
-    c.written.ensures ∙ (put_whole _ _ _ _ put.printed (omega (arith, put.most, c.requires))).0
+    c.unwrap_or.ensures ∙ (put_whole _ _ _ _ put.printed (omega (arith, put.most))).0
 
 pub returns-clause-bytes : goal.returns-clause-bytes
 returns-clause-bytes c =
     let put = c.audit_text.ensures in
-    (put_whole _ _ _ _ put.printed (omega (arith, put.most, c.requires))).1
+    (put_whole _ _ _ _ put.printed (omega (arith, put.most))).1

@@ -1,23 +1,24 @@
 -- `row_8` meets its contract.
-use Rattle.std.proofs.Common.{sym, ◌∙◌, arith, rules}
+use Rattle.std.proofs.Common.{not, ap, ◌∙◌}
 use Rattle.model.proofs.LineScans.{scan-start}
-use Rattle.replay.proofs.Counting.{count-not, count-end, counts-more, counts_all}
+use Rattle.replay.proofs.Counting.{count-on, count-not, count-end, counts-more, counts_all, counts-end}
 use Rattle.replay.proofs.counts.row_8.Goals as goal
-use Rattle.replay.proofs.counts.row_8.Goals.{else-lines-test, then-lines-test+then-loop-k-test+then-not-is_claimed}
 
-pub lines-init : goal.lines-init
-lines-init c = scan-start
+pub loop-i-init : goal.loop-i-init
+loop-i-init c = scan-start
 
-pub lines-preserved : goal.lines-preserved
-lines-preserved c =
-    counts_all _ c.lines.invariant (search rules) _ c.of_at-x.ensures
-    (count-end c.loop-k.invariant (search rules))
+pub loop-k-preserved : goal.loop-k-preserved
+loop-k-preserved c =
+    count-on c.loop-k.invariant c.loop-k-test.true _ c.line_of.ensures.line (c.is_none.ensures ∙ ap not c.if-is_none.false)
 
-pub returns-then-i-m : goal.returns-then-i-m
-returns-then-i-m c =
-    elim c.lines-test.branch [
-      | else-lines-test w ↦ absurd (omega arith)
-      | then-lines-test+then-loop-k-test+then-not-is_claimed w ↦
-          counts-more _ c.lines.invariant w.lines-test.true _ w.of_at-x.ensures
-          (count-not w.loop-k.invariant w.loop-k-test.true (sym w.is_claimed.ensures ∙ w.if-not-is_claimed.true))
-    ]
+pub loop-i-preserved : goal.loop-i-preserved
+loop-i-preserved c =
+    counts_all _ _ c.loop-i.invariant c.loop-i-test.true (count-end c.loop-k.invariant c.loop-k-test.false)
+
+pub returns-then-is_none : goal.returns-then-is_none
+returns-then-is_none c =
+    counts-more _ _ c.loop-i.invariant c.loop-i-test.true
+    (count-not c.loop-k.invariant c.loop-k-test.true _ c.line_of.ensures.line (c.is_none.ensures ∙ ap not c.if-is_none.true))
+
+pub returns-after-loop-i : goal.returns-after-loop-i
+returns-after-loop-i c = counts-end _ _ c.loop-i.invariant c.loop-i-test.false
