@@ -32,9 +32,6 @@ claimed-is (l ∷ ls) r k = by_bool (claims r k l)
     ∙ ap is_some (sym (position-next (claims r k) l ls e)))
 
 module _ {log : List Entry} {r n : ℕ} where
-  pub count-start : Counting log r n n
-  count-start = record { same = refl }
-
   -- of k operations the last has a log line
   module _ {k : ℕ} (s : Counting log r n k) (h : 0 < k) (x : Option ℕ) (e : x ≡ position (claims r (k - 1 + 1)) log) where
     last : all_claimed log r k ≡ (is_some x && all_claimed log r (k - 1))

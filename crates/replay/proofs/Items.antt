@@ -1,7 +1,7 @@
 -- The items of a batch in arrays, and that the merge of the arrays is the merge of the batch.
-use Rattle.std.proofs.Common.{◌≡◌, ℕ, zero, suc, ◌+◌, ◌-◌, ◌%◌, ◌≤◌, ◌<◌, min, Bool, true, false, not, eqb, ltb, List, [], ◌∷◌, map, length, get_or, set, take, drop, refl, sym, ap, subst, ◌∙◌, arith, length-append, get_or-set_same, get_or-set_other}
+use Rattle.std.proofs.Common.{◌≡◌, ℕ, zero, suc, ◌+◌, ◌-◌, ◌%◌, ◌≤◌, ◌<◌, min, Bool, true, false, not, eqb, ltb, List, [], ◌∷◌, map, length, get_or, take, drop, refl, sym, ap, subst, ◌∙◌, arith, length-append}
 use Rattle.std.proofs.Math.Option.{none}
-use Rattle.std.proofs.lemmas.List.{length-set, length-take, length-map, get_or-map, get_or-append-add, get_or-take}
+use Rattle.std.proofs.lemmas.List.{length-take, length-map, get_or-map, get_or-append-add, get_or-take}
 use Rattle.std.proofs.Math.ListN.{get_or-append}
 use borrow.Author.Tests.{ltb-true, ltb-false, ne_eqb}
 use native.Mathlib.Nat.{mod-eq_of_lt}
@@ -29,7 +29,6 @@ use Rattle.model.proofs.Requests.{Named, events-named}
 use Rattle.replay.specs.Held.{no_event, no_entry, node_at}
 use Rattle.replay.specs.Judges.{Ready, Orders}
 use Rattle.replay.specs.Promises.{lane_in, number_in, ItemIs, item_of, ItemsTo, Returns}
-use Rattle.replay.specs.declared.orders.Item.{Item}
 use Rattle.replay.specs.declared.orders.Items.{Items}
 use Rattle.replay.proofs.Looking.{ready-formed}
 
@@ -41,37 +40,6 @@ all-at P (x ∷ xs) (suc i) d a h = all-at P xs i d a.1 (omega arith)
 
 module _ (b : Batch) where
   open b use {trace, ofs, log}
-
-  -- ── items put one after the other ──
-  pub items-start : (x : Items) → length x.lane ≡ 1152 → length x.request ≡ 1152 → length x.number ≡ 1152 → ItemsTo b 0 x
-  items-start x l r n = record { lane_room = l; request_room = r; number_room = n; items = λ j h. absurd (omega arith) }
-
-  pub items_more : (x : Items) (i : ℕ) (y : Item) → ItemsTo b i x → i < 1152 → ItemIs ofs (node_at b i) y →
-      ItemsTo b (i + 1) (record { lane = set x.lane i y.lane; request = set x.request i y.request; number = set x.number i y.number })
-  items_more x i y t h p = record {
-    lane_room = length-set x.lane i y.lane ∙ t.lane_room;
-    request_room = length-set x.request i y.request ∙ t.request_room;
-    number_room = length-set x.number i y.number ∙ t.number_room;
-    items = λ j l. by_eq i j
-        (λ q _.
-        let s : item_of x' i ≡ y = λ k. record {
-          lane = get_or-set_same x.lane i y.lane 0 (omega (arith, t.lane_room)) k;
-          request = get_or-set_same x.request i y.request 0 (omega (arith, t.request_room)) k;
-          number = get_or-set_same x.number i y.number 0 (omega (arith, t.number_room)) k;
-        } in
-        subst (λ j. ItemIs ofs (node_at b j) (item_of x' j)) q (subst (ItemIs ofs (node_at b i)) (sym s) p))
-        (λ q _.
-        let d : j ≡ i → ⊥ = λ p. q (sym p) in
-        let s : item_of x' j ≡ item_of x j = λ k. record {
-          lane = get_or-set_other x.lane i j y.lane 0 d k;
-          request = get_or-set_other x.request i j y.request 0 d k;
-          number = get_or-set_other x.number i j y.number 0 d k;
-        } in
-        subst (ItemIs ofs (node_at b j)) (sym s) (t.items j (omega arith)));
-  }
-    where
-      x' : Items
-      x' = record { lane = set x.lane i y.lane; request = set x.request i y.request; number = set x.number i y.number }
 
   -- ── the nodes of a batch by their places ──
   -- a node, past the last

@@ -1,8 +1,9 @@
 -- The replay of all requests, one after the other: the first fault of rows 10 to 12.
-use Rattle.std.proofs.Common.{◌≡◌, ◌≢◌, ℕ, zero, suc, ◌+◌, ◌≤◌, ◌<◌, Bool, true, false, cond, not, eqb, ltb, lt-ltb, replicate, List, [], ◌∷◌, length, set, drop, Option, Some, None, Result, Ok, Err, position, unwrap_or, ◌==◌, refl, sym, ap, subst, ◌∙◌, arith, get_or-set_same, get_or-set_other}
+use Rattle.std.proofs.Common.{◌≡◌, ◌≢◌, ℕ, suc, ◌+◌, ◌≤◌, ◌<◌, Bool, true, false, cond, not, eqb, ltb, lt-ltb, List, [], ◌∷◌, ◌++◌, length, get_or, drop, Option, Some, None, Result, Ok, Err, position, unwrap_or, ◌==◌, refl, sym, ap, subst, ◌∙◌, arith}
 use Rattle.std.proofs.Math.Option.{none, some}
 use Rattle.std.proofs.Math.Option as Math
-use Rattle.std.proofs.lemmas.List.{length-set, drop_more, drop_all}
+use Rattle.std.proofs.lemmas.List.{length_push, get_or_push, get_or_past, drop_more, drop_all}
+use Rattle.std.proofs.Math.ListN.{get_or-append}
 use Rattle.std.proofs.lemmas.List.Sums.{fails_before_first}
 use Rattle.std.specs.List.{position_or_len}
 use borrow.Author.Tests.{ltb-true, ltb-false}
@@ -21,11 +22,10 @@ use Rattle.machine.specs.Instance.{Process, machine_of}
 use Rattle.machine.specs.Objects.{Content}
 use Rattle.replay.specs.Index.{Claimed}
 use Rattle.replay.specs.Judges.{Ready}
-use Rattle.replay.specs.Promises.{replied_as, left_open, AnsweredFrom, outcome_by, replayed, way, path_at, no_path, Short, ReplaysRequest, row_by, JudgesRequests}
+use Rattle.replay.specs.Promises.{replied_as, left_open, AnsweredFrom, outcome_of, replayed, way, ReplaysRequest, row_by, JudgesRequests}
 use Rattle.replay.specs.declared.batch.Fault.{Fault}
-use Rattle.replay.specs.declared.lookups.Response.{Response as Reply_}
+use Rattle.replay.specs.declared.lookups.Response.{Response}
 use Rattle.replay.specs.declared.paths.Path.{Path}
-use Rattle.replay.specs.declared.replays.Ended.{Ended}
 use Rattle.replay.proofs.Looking.{open-is, ready-table, counted_is}
 use Rattle.replay.proofs.Places.{position-here, position-next}
 use Rattle.replay.proofs.Rows.{row_of, checks_of, row-differs, row-ends, row-none, row-some}
@@ -90,12 +90,6 @@ module _ (ofs : List Of) (k f : ℕ) (low : k < length ofs)
   unfolding rid_at
   first-rid = first-at g ofs ∙ ap (rid_at g ofs) place-is ∙ ap (λ i. (of_at ofs i).rid) (sym first-place)
 
--- the paths at the start
-pub short-start : (p : Path) (n : ℕ) → p.done ≤ 256 → Short (replicate n p)
-short-start p zero h k = omega arith
-short-start p (suc n) h zero = h
-short-start p (suc n) h (suc k) = short-start p n h k
-
 module _ (table : List Program) (b : Batch) (c : Claimed) where
   open b use {trace, ofs}
 
@@ -117,47 +111,42 @@ module _ (table : List Program) (b : Batch) (c : Claimed) where
   -- the requests below slot k broke no row, and their ways are kept
   pub record Judging (paths : List Path) (k : ℕ) : Type 0 where
     pub few : length ofs ≤ 64
-    pub room : length paths ≡ 64
-    pub short : Short paths
-    pub kept : (n : Known) (j : ℕ) → j < k → (reply : Reply) × (outcomes n j ≡ ended reply (way (path_at paths j)))
+    pub room : length paths ≡ k
+    pub kept : (n : Known) (j : ℕ) (d : Path) → j < k → (reply : Reply) × (outcomes n j ≡ ended reply (way (get_or paths j d)))
     pub rest : (n : Known) → first_fault (replay_checks (machine_of table) n.opening b 1 ofs) ≡ first_fault (checks_from n k)
 
-  pub judging-start : (paths : List Path) → length ofs ≤ 64 → length paths ≡ 64 → Short paths → Judging paths 0
-  judging-start paths few room short = record {
+  pub judging-start : (paths : List Path) → length ofs ≤ 64 → paths ≡ [] → Judging paths 0
+  judging-start paths few e = record {
     few = few;
-    room = room;
-    short = short;
-    kept = λ n j h. absurd (omega arith);
+    room = ap length e;
+    kept = λ n j d h. absurd (omega arith);
     rest = λ n. refl;
   }
 
   -- what was looked up and replayed for the request in slot k, and the row that it breaks
   pub record Step (k f : ℕ) (paths : List Path) (path : Path) (row : Option ℕ) : Type 0 where
-    pub reply : Option Reply_
+    pub reply : Option Response
     pub is_open : Bool
-    pub end : Option Ended
+    pub end : Option (Option Response)
     pub same : Bool
     pub group : f ≡ unwrap_or (position (λ x. x.group == (of_at ofs k).group) ofs) k
     pub replies : replied_as reply ≡ response_of trace (of_at ofs k).rid
     pub opened : is_some reply ≡ not is_open
-    pub replays : ReplaysRequest table trace (of_at ofs k) is_open c (path_at paths k) path end
-    pub same_is : same ≡ same_path (way (path_at (set paths k path) k)) (way (path_at (set paths k path) f))
+    pub replays : ReplaysRequest table trace (of_at ofs k) is_open c path end
+    pub same_is : same ≡ same_path (way path) (way (get_or paths f path))
     pub row_is : row ≡ row_by end reply same
-
-  -- the paths stay short
-  pub stay-short : (k : ℕ) (paths : List Path) (path : Path) → Judging paths k → k < length ofs → path.done ≤ 256 → Short (set paths k path)
-  stay-short k paths path j low h i = by_eq i k
-      (λ p _. subst (λ i. (path_at (set paths k path) i).done ≤ 256) (sym p)
-      (subst (λ x. x.done ≤ 256) (sym (get_or-set_same paths k path no_path (omega (arith, j.room, j.few)))) h))
-      (λ p _. subst (λ x. x.done ≤ 256) (sym (get_or-set_other paths k i path no_path p)) (j.short i))
 
   module _ (k f : ℕ) (paths : List Path) (path : Path) (row : Option ℕ) (j : Judging paths k) (low : k < length ofs)
       (w : Step k f paths path row) where
     abbrev paths' : List Path
-    paths' = set paths k path
+    paths' = paths ++ path ∷ []
 
-    own-path : path_at paths' k ≡ path
-    own-path = get_or-set_same paths k path no_path (omega (arith, j.room, j.few))
+    -- the way in slot k is the last, and the others stand before it
+    own-path : (d : Path) → get_or paths' k d ≡ path
+    own-path d = get_or_push paths path d k j.room
+
+    kept-path : (i : ℕ) (d : Path) → i < k → get_or paths' i d ≡ get_or paths i d
+    kept-path i d h = get_or-append paths (path ∷ []) d i (omega (arith, j.room))
 
     module _ (n : Known) where
       replayed-is : (o : Math.Option Process) → replayed table c n.opening (of_at ofs k) (response_of trace (of_at ofs k).rid) o
@@ -169,20 +158,27 @@ module _ (table : List Program) (b : Batch) (c : Claimed) where
           λ i. replay (machine_of table) (claim (machine_of table) (l i) n.opening (of_at ofs k).rid)
           (response_of trace (of_at ofs k).rid) (sym q i) 1 p ((machine_of table).advance p)
 
-      outcome-is : outcomes n k ≡ outcome_by path w.end
+      outcome-is : outcomes n k ≡ outcome_of w.end (way path)
       outcome-is =
           let r = (of_at ofs k).rid in
           sym (w.replays.outcome (ready-table n.known b n.ready r) n.opening n.answered (response_of trace r)
           (ap left_open (sym w.replies) ∙ open-is w.reply w.is_open w.opened)
           ∙ replayed-is _)
 
-      kept_more : (e : Ended) → w.end ≡ Some e → (i : ℕ) → i ≤ k → (reply : Reply) × (outcomes n i ≡ ended reply (way (path_at paths' i)))
-      kept_more e q i h = by_eq i k
-          (λ p _. subst (λ i. (reply : Reply) × (outcomes n i ≡ ended reply (way (path_at paths' i)))) (sym p)
-          (replied_as e.reply, outcome-is ∙ ap (outcome_by path) q ∙ ap (λ x. ended (replied_as e.reply) (way x)) (sym own-path)))
+      kept_more : (e : Option Response) → w.end ≡ Some e → (i : ℕ) (d : Path) → i ≤ k →
+          (reply : Reply) × (outcomes n i ≡ ended reply (way (get_or paths' i d)))
+      kept_more e q i d h = by_eq i k
+          (λ p _. subst (λ i. (reply : Reply) × (outcomes n i ≡ ended reply (way (get_or paths' i d)))) (sym p)
+          (replied_as e, outcome-is ∙ ap (λ x. outcome_of x (way path)) q ∙ ap (λ x. ended (replied_as e) (way x)) (sym (own-path d))))
           (λ p _.
-          let g = j.kept n i (omega arith) in
-          (g.0, g.1 ∙ ap (λ x. ended g.0 (way x)) (sym (get_or-set_other paths k i path no_path p))))
+          let g = j.kept n i d (omega arith) in
+          (g.0, g.1 ∙ ap (λ x. ended g.0 (way x)) (sym (kept-path i d (omega arith)))))
+
+      -- the way of the first of the group
+      first-way : get_or paths f path ≡ get_or paths' f path
+      first-way = by_eq f k
+          (λ p _. get_or_past paths f path (omega (arith, j.room)) ∙ sym (ap (λ i. get_or paths' i path) p ∙ own-path path))
+          (λ p _. sym (kept-path f path (omega (arith, first-low ofs k f low w.group))))
 
       -- the row that was found is the row of the definitions
       abbrev response : Reply
@@ -195,14 +191,14 @@ module _ (table : List Program) (b : Batch) (c : Claimed) where
       row-real =
           w.row_is
           ∙ by_option w.end
-          (λ q. row-differs path w.reply w.same w.end q first_outcome)
+          (λ q. row-differs (way path) w.reply w.same w.end q first_outcome)
           (λ e q.
-          let g = kept_more e q f (first-low ofs k f low w.group) in
-          let o : first_outcome ≡ ended g.0 (way (path_at paths' f)) =
+          let g = kept_more e q f path (first-low ofs k f low w.group) in
+          let o : first_outcome ≡ ended g.0 (way (get_or paths' f path)) =
           ap (outcome (machine_of table) n.opening b) (first-rid ofs k f low w.group) ∙ g.1 in
-          row-ends path w.reply w.same w.end e q g.0 (way (path_at paths' f))
-          (w.same_is ∙ ap (λ x. same_path (way x) (way (path_at paths' f))) own-path)
-          ∙ ap (row_of (outcome_by path w.end) (replied_as w.reply)) (sym o))
+          row-ends (way path) w.reply w.same w.end e q g.0 (way (get_or paths' f path))
+          (w.same_is ∙ ap (λ x. same_path (way path) (way x)) first-way)
+          ∙ ap (row_of (outcome_of w.end (way path)) (replied_as w.reply)) (sym o))
           ∙ (λ i. row_of (sym outcome-is i) (w.replies i) first_outcome)
 
       checks-split : checks_from n k ≡ checks_of (outcomes n k) response first_outcome (suc k) (checks_from n (k + 1))
@@ -223,13 +219,12 @@ module _ (table : List Program) (b : Batch) (c : Claimed) where
     pub judging-next : row ≡ None → Judging paths' (k + 1)
     judging-next z = record {
       few = j.few;
-      room = length-set paths k path ∙ j.room;
-      short = stay-short k paths path j low (w.replays.few (j.short k));
-      kept = λ n i h. by_option w.end
+      room = length_push paths path ∙ ap (λ i. i + 1) j.room;
+      kept = λ n i d h. by_option w.end
           (λ q.
           let e : None ≡ Some 10 = sym z ∙ w.row_is ∙ ap (λ e. row_by e w.reply w.same) q in
           clash (cc))
-          (λ e q. kept_more n e q i (omega arith));
+          (λ e q. kept_more n e q i d (omega arith));
       rest = λ n.
           j.rest n ∙ ap first_fault (checks-split n)
           ∙ row-none (outcomes n k) (response n) (first_outcome n) (suc k) (checks_from n (k + 1)) (sym (row-real n) ∙ z);
@@ -245,7 +240,7 @@ pub judges_same : (table : List Program) (a b : Batch) → a ≡ b → (c : Clai
 judges_same table a b e c r = subst (λ b. JudgesRequests table b c r) e
 
 -- a row that a request breaks is one of the table
-pub row-not_0 : (end : Option Ended) (reply : Option Reply_) (same_way : Bool) (row : ℕ) → row_by end reply same_way ≡ Some row → row ≢ 0
+pub row-not_0 : (end : Option (Option Response)) (reply : Option Response) (same_way : Bool) (row : ℕ) → row_by end reply same_way ≡ Some row → row ≢ 0
 row-not_0 None reply same row e z = clash (omega (arith, ap (λ o. unwrap_or o 0) e, z))
 row-not_0 (Some x) reply same row e z = tested _ same e
   where

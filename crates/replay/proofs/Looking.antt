@@ -1,5 +1,5 @@
 -- What is looked up of a request, as the definitions have it, and what a batch that is ready says of it.
-use Rattle.std.proofs.Common.{◌≡◌, ℕ, ◌%◌, ◌<◌, Bool, true, false, not, eqb, List, [], ◌∷◌, length, get_or, Option, Some, None, refl, sym, ap, subst, ◌∙◌, arith}
+use Rattle.std.proofs.Common.{◌≡◌, ℕ, ◌%◌, ◌<◌, Bool, true, false, not, eqb, List, [], ◌∷◌, length, get_or, Option, Some, None, refl, sym, ap, subst, ◌∙◌}
 use Rattle.std.proofs.Math.Option.{none, some}
 use Rattle.std.proofs.Math.Option as Math
 use Rattle.std.specs.Option.{is_some}
@@ -15,18 +15,16 @@ use Rattle.text.specs.declared.report.Of.{Of}
 use Rattle.text.specs.declared.trace.Event.TheVariants.{Request, Response}
 use Rattle.text.specs.declared.trace.Event.{Event}
 use Rattle.model.specs.Batch.{Batch, count_of}
-use Rattle.model.specs.Replay.{Reply, request_of}
+use Rattle.model.specs.Replay.{request_of}
 use Rattle.model.proofs.Requests.{ofs-counted}
 use Rattle.model.proofs.Trace.{Formed, KnownIn, row4-order, row6-matching}
 use Rattle.machine.specs.Instance.{Process, code_at, machine_of}
-use Rattle.machine.specs.Objects.{Content}
 use Rattle.replay.specs.Index.{Claimed}
 use Rattle.replay.specs.Judges.{Ready}
-use Rattle.replay.specs.Promises.{arrival_of, replied_as, left_open, AnsweredFrom, Setting, outcome_in, outcome_by, replayed, InTable, Replays, ReplaysRequest}
+use Rattle.replay.specs.Promises.{arrival_of, replied_as, left_open, Setting, outcome_of, way, replayed, InTable, Replays, ReplaysRequest}
 use Rattle.replay.specs.declared.lookups.Arrival.{Arrival}
-use Rattle.replay.specs.declared.lookups.Response.{Response as Reply_}
+use Rattle.replay.specs.declared.lookups.Response.{Response as Said}
 use Rattle.replay.specs.declared.paths.Path.{Path}
-use Rattle.replay.specs.declared.replays.Ended.{Ended}
 
 -- ── the request of a rid, at its start ──
 abbrev started : List Program → Option Arrival → Math.Option Process
@@ -39,7 +37,7 @@ request-is table (Request q prog a b ∷ es) r = by_bool (eqb q r) (λ e. rw e) 
 request-is table (Response q s v ∷ es) r = request-is table es r
 
 -- what the trace has for it
-pub open-is : (reply : Option Reply_) (is_open : Bool) → is_some reply ≡ not is_open → left_open (replied_as reply) ≡ is_open
+pub open-is : (reply : Option Said) (is_open : Bool) → is_some reply ≡ not is_open → left_open (replied_as reply) ≡ is_open
 open-is None true e = refl
 open-is None false e = clash (cc)
 open-is (Some x) true e = clash (cc)
@@ -47,37 +45,25 @@ open-is (Some x) false e = refl
 
 -- ── its replay ──
 module _ (table : List Program) (events : List Event) (x : Of) (is_open : Bool) (c : Claimed) where
-  pub no-request : arrival_of events x.rid ≡ None → (old : Path) (end : Option Ended) → end ≡ None →
-      ReplaysRequest table events x is_open c old old end
-  no-request e old end q = record {
-    few = λ h. h;
+  pub no-request : arrival_of events x.rid ≡ None → (path : Path) (end : Option (Option Said)) → end ≡ None →
+      ReplaysRequest table events x is_open c path end
+  no-request e path end q = record {
     outcome = λ _ opening _ reply _.
-        ap (outcome_by old) q ∙ sym (ap (replayed table c opening x reply) (request-is table events x.rid ∙ ap (started table) e));
+        ap (λ i. outcome_of i (way path)) q ∙ sym (ap (replayed table c opening x reply) (request-is table events x.rid ∙ ap (started table) e));
   }
 
-  module _ (a : Arrival) (e : arrival_of events x.rid ≡ Some a) (positions : List ℕ) (end : Option Ended)
-      (s : Replays c x.rid x.count a.a a.b is_open (get_or table (a.prog % 16) no_program).code positions end) where
-    comes : InTable events x.rid → (opening : ℕ → Content) → AnsweredFrom opening c → (reply : Reply) → left_open reply ≡ is_open →
-        outcome_in a.prog positions end ≡ replayed table c opening x reply (request_of (machine_of table) events x.rid)
-    comes t opening h reply o =
+  pub replay-request : (a : Arrival) → arrival_of events x.rid ≡ Some a → (path : Path) → path.prog ≡ a.prog →
+      (end : Option (Option Said)) →
+      Replays c x.rid x.count a.a a.b is_open (get_or table (a.prog % 16) no_program).code path.positions.items end →
+      ReplaysRequest table events x is_open c path end
+  replay-request a e path p end s = record {
+    outcome = λ t opening h reply o.
         let w : Setting c = record { table = table; opening = opening; answered = h } in
         let b : code_at table a.prog ≡ (get_or table (a.prog % 16) no_program).code =
         ap (λ i. (get_or table i no_program).code) (sym (mod-eq_of_lt (t a e))) in
-        s.outcome w a.prog reply b o ∙ sym (ap (replayed table c opening x reply) (request-is table events x.rid ∙ ap (started table) e))
-
-    pub replay-differs : end ≡ None → (old path : Path) → path.done ≡ old.done → (end' : Option Ended) → end' ≡ None →
-        ReplaysRequest table events x is_open c old path end'
-    replay-differs q old path d end' p = record {
-      few = λ h. omega (arith, d, h);
-      outcome = λ t opening h reply o. ap (outcome_by path) p ∙ sym (ap (outcome_in a.prog positions) q) ∙ comes t opening h reply o;
-    }
-
-    pub replay-ends : (d : Ended) → end ≡ Some d → (old : Path) →
-        ReplaysRequest table events x is_open c old (record { prog = a.prog; done = d.done; positions = positions }) (Some d)
-    replay-ends d q old = record {
-      few = λ _. rw q at s.few;
-      outcome = λ t opening h reply o. sym (ap (outcome_in a.prog positions) q) ∙ comes t opening h reply o;
-    }
+        ap (λ i. outcome_of end (i ∷ path.positions.items)) p
+        ∙ s.outcome w a.prog reply b o ∙ sym (ap (replayed table c opening x reply) (request-is table events x.rid ∙ ap (started table) e));
+  }
 
 -- ── a batch that is ready ──
 known-arrival : (known : ℕ → Bool) (r : ℕ) (es : List Event) → All (KnownIn known) es → (a : Arrival) → arrival_of es r ≡ Some a →

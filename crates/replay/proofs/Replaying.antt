@@ -1,6 +1,6 @@
 -- Laws of one request's replay: what each instruction does to it, and how it ends.
-use Rattle.std.proofs.Common.{◌≡◌, ℕ, zero, suc, ◌+◌, ◌-◌, ◌%◌, ◌≤◌, ◌<◌, Bool, true, false, cond, ◌&&◌, eqb, List, [], ◌∷◌, ◌++◌, length, get_or, set, take, Option, Some, None, refl, sym, ap, subst, ◌∙◌, arith, add-one}
-use Rattle.std.proofs.lemmas.List.{length-set, take_more_set}
+use Rattle.std.proofs.Common.{◌≡◌, ℕ, zero, suc, ◌+◌, ◌-◌, ◌%◌, ◌≤◌, ◌<◌, Bool, true, false, cond, ◌&&◌, eqb, List, [], ◌∷◌, ◌++◌, length, get_or, Option, Some, None, refl, sym, ap, subst, ◌∙◌, arith, add-one}
+use Rattle.std.proofs.lemmas.List.{length_push}
 use borrow.Author.Tests.{ne_eqb}
 use Rattle.basics.proofs.Tests.{clash, by_bool, by_eq, eqb_yes}
 use Rattle.text.specs.Programs.{no_instr}
@@ -16,9 +16,8 @@ use Rattle.machine.specs.Instructions.{effect, effect_of}
 use Rattle.machine.specs.Processes.{advanced, stop_at, first_locals, limit, instr_at, resumed}
 use Rattle.machine.proofs.Turns.{moved, asked, replied, cut_off}
 use Rattle.replay.specs.Index.{Claimed}
-use Rattle.replay.specs.Promises.{Setting, claimed_in, Answers, answered_as, replied_as, left_open, most_of, ended_with, replay_of, Replays}
+use Rattle.replay.specs.Promises.{Setting, claimed_in, Answers, answered_as, replied_as, left_open, most_of, replay_of, Replays}
 use Rattle.replay.specs.declared.lookups.Response.{Response}
-use Rattle.replay.specs.declared.replays.Ended.{Ended}
 
 abbrev reply_of : (status value : ℕ) → Option Response
 reply_of s v = Some (record { status = s; value = v })
@@ -114,28 +113,16 @@ module _ (held : Claimed) (rid count : ℕ) (is_open : Bool) (code : List Instr)
     pub within : most ≤ 256
     pub counted : k ≤ count
     pub slower : k ≤ done
-    pub room : length positions ≡ 256
+    pub room : length positions ≡ done
     pub goes : (w : Setting held) (prog : ℕ) (reply : Reply) → code_at w.table prog ≡ code → left_open reply ≡ is_open →
-        replay_of w rid reply (count - k) (suc k) (process prog l at done (take done positions)) ≡ Whole w prog reply
+        replay_of w rid reply (count - k) (suc k) (process prog l at done (positions)) ≡ Whole w prog reply
 
-  pub going_start : (most : ℕ) → most ≡ most_of is_open 0 count 0 → (positions : List ℕ) → length positions ≡ 256 →
-      Going l₀ 0 0 positions 0 most
-  going_start most e positions r = record {
-    few = omega arith;
-    bound = e;
-    within = most-within is_open 0 count 0 most e (omega arith);
-    counted = omega arith;
-    slower = omega arith;
-    room = r;
-    goes = λ w prog reply c o. let z : count - 0 ≡ count = omega arith in rw z;
-  }
-
-  abbrev Ends : List ℕ → Option Ended → Type 0
+  abbrev Ends : List ℕ → Option (Option Response) → Type 0
   Ends positions end = (a b : ℕ) → l₀ ≡ first_locals a b → Replays held rid count a b is_open code positions end
 
   module _ (l : List ℕ) (at done : ℕ) (positions : List ℕ) (k most : ℕ) (g : Going l at done positions k most) where
     abbrev here : ℕ → Process
-    here prog = process prog l at done (take done positions)
+    here prog = process prog l at done (positions)
 
     -- how the replay comes out from here on with so many operations left to do, of any program with this code and any response
     abbrev Comes : (left : ℕ) → (ℕ → Outcome) → Type 0
@@ -160,31 +147,29 @@ module _ (held : Claimed) (rid count : ℕ) (is_open : Bool) (code : List Instr)
         sym (c w prog d reply o) ∙ g.goes w prog reply d o ∙ ap (λ l. replay_of w rid reply count 1 (process prog l 0 0 [])) e
 
     -- a request that stops here with a reply: the report counts its operations, or it comes to its end before they are done
-    stopping : (positions' : List ℕ) (done' : ℕ) (reply' : Option Response) → done' ≤ 256 →
-        (k ≡ count → Comes 0 (λ prog. ended (replied_as reply') (prog ∷ take done' positions'))) →
+    stopping : (positions' : List ℕ) (reply' : Option Response) →
+        (k ≡ count → Comes 0 (λ prog. ended (replied_as reply') (prog ∷ positions'))) →
         (s v : ℕ) → (k < count → Does (stop s v)) →
-        (end : Option Ended) → end ≡ cond (eqb k count) (Some (ended_with reply' done')) None → Ends positions' end
-    stopping positions' done' reply' few last s v next end e a b start = by_eq k count
+        (end : Option (Option Response)) → end ≡ cond (eqb k count) (Some reply') None → Ends positions' end
+    stopping positions' reply' last s v next end e a b start = by_eq k count
         (λ p t.
-        let c : end ≡ Some (ended_with reply' done') = rw t at e in
+        let c : end ≡ Some reply' = rw t at e in
         subst (Replays held rid count a b is_open code positions') (sym c) (record {
-          few = few;
           outcome = from_start _ (none_left _ p (last p)) a b start;
         }))
         (λ p t.
         let c : end ≡ None = rw t at e in
         let h : k < count = omega (arith, g.counted) in
         subst (Replays held rid count a b is_open code positions') (sym c) (record {
-          few = omega arith;
           outcome = from_start _ (some_left (λ prog. differs) h (λ w prog d reply o.
               too_few (machine_of w.table) (claimed w) reply (suc k) (here prog) (count - (k + 1)) s v (next h w prog d))) a b start;
         }))
 
     -- a request that goes no further is left open behind its last operation, or has used up its instructions and is cut off
     pub going-no-further : most ≤ done → (reply' : Option Response) → reply' ≡ cond is_open None (reply_of 1 0) →
-        (end : Option Ended) → end ≡ cond (eqb k count) (Some (ended_with reply' done)) None → Ends positions end
+        (end : Option (Option Response)) → end ≡ cond (eqb k count) (Some reply') None → Ends positions end
     going-no-further h reply' r end e =
-        stopping positions done reply' g.few (λ p. last) 1 0 (λ z w prog d. cuts w prog (early z)) end e
+        stopping positions reply' (λ p. last) 1 0 (λ z w prog d. cuts w prog (early z)) end e
       where
         used : is_open ≡ false → 256 ≤ done
         used t = omega (arith, rw t at g.bound)
@@ -193,13 +178,13 @@ module _ (held : Claimed) (rid count : ℕ) (is_open : Bool) (code : List Instr)
         early z = by_bool is_open (λ t. omega (arith, rw (t, ne_eqb k count (λ e. omega arith)) at g.bound)) used
 
         cut : (w : Setting held) (prog : ℕ) → 256 ≤ done →
-            gone limit w.table (here prog) ≡ advanced l (stop_at at done Cut) (take done positions)
+            gone limit w.table (here prog) ≡ advanced l (stop_at at done Cut) (positions)
         cut w prog c = cut_off limit w.table (here prog) (omega arith)
 
         cuts : (w : Setting held) (prog : ℕ) → 256 ≤ done → (machine_of w.table).advance (here prog) ≡ stop 1 0
         cuts w prog c = ap (λ t. next_of t.stop.next) (cut w prog c)
 
-        last : Comes 0 (λ prog. ended (replied_as reply') (prog ∷ take done positions))
+        last : Comes 0 (λ prog. ended (replied_as reply') (prog ∷ positions))
         last w prog d reply o = by_bool is_open
             (λ t.
             let c : reply' ≡ None = rw t at r in
@@ -225,13 +210,10 @@ module _ (held : Claimed) (rid count : ℕ) (is_open : Bool) (code : List Instr)
       open-left t = by_eq k count (λ p d. let z = rw (t, d) at goes-on in clash (cc)) (λ p d. omega (arith, g.counted))
 
       abbrev marked : List ℕ
-      marked = set positions done (at % 64)
+      marked = positions ++ (at % 64) ∷ []
 
-      room-marked : length marked ≡ 256
-      room-marked = length-set positions done (at % 64) ∙ g.room
-
-      path-marked : take (done + 1) marked ≡ take done positions ++ (at % 64) ∷ []
-      path-marked = take_more_set positions done (at % 64) (omega (arith, g.room, unbound))
+      room-marked : length marked ≡ done + 1
+      room-marked = length_push positions (at % 64) ∙ omega (arith, g.room)
 
       does : (w : Setting held) (prog : ℕ) (y : Act) → code_at w.table prog ≡ code → x ≡ y →
           effect_of l (instr_at (code_at w.table prog) at) (at % 64 + 1) ≡ effect m y
@@ -246,8 +228,7 @@ module _ (held : Claimed) (rid count : ℕ) (is_open : Bool) (code : List Instr)
         slower = omega (arith, g.slower);
         room = room-marked;
         goes = λ w prog reply d o.
-            ap (λ path. replay_of w rid reply (count - k) (suc k) (process prog m to (done + 1) path)) path-marked
-            ∙ sym (same-gone w rid reply (count - k) (suc k) (here prog) _ (λ t. open-left (sym o ∙ t)) refl
+            sym (same-gone w rid reply (count - k) (suc k) (here prog) _ (λ t. open-left (sym o ∙ t)) refl
             (moved limit w.table (here prog) (omega (arith, unbound)) m to (does w prog (Goes to) d q)))
             ∙ g.goes w prog reply d o;
       }
@@ -255,14 +236,13 @@ module _ (held : Claimed) (rid count : ℕ) (is_open : Bool) (code : List Instr)
       -- a fault at this instruction
       differing : Comes (count - k) (λ prog. differs) → Ends marked None
       differing f a b d = record {
-        few = omega arith;
         outcome = from_start (λ prog. differs) f a b d;
       }
 
       module _ (o : Op) (into : ℕ) (q : x ≡ Asks o into) where
         asks : (w : Setting held) (prog : ℕ) → code_at w.table prog ≡ code →
             gone limit w.table (here prog) ≡ advanced m (stop_at (at % 64 + 1) (done + 1) (Operation o into))
-            (take done positions ++ (at % 64) ∷ [])
+            (positions ++ (at % 64) ∷ [])
         asks w prog d = asked limit w.table (here prog) (omega (arith, unbound)) m o into (does w prog (Asks o into) d q)
 
         next : Does (op o)
@@ -280,7 +260,7 @@ module _ (held : Claimed) (rid count : ℕ) (is_open : Bool) (code : List Instr)
           answer y z f p w =
               sym (subst (λ j. answered_as y ≡ compare (machine_of w.table) o (claimed w j)) (add-one k) (f w)) ∙ ap answered_as p
 
-          pub going-wrong : (y : Option ℕ) → Answers held rid (k + 1) o y → y ≡ None → (end : Option Ended) → end ≡ None → Ends marked end
+          pub going-wrong : (y : Option ℕ) → Answers held rid (k + 1) o y → y ≡ None → (end : Option (Option Response)) → end ≡ None → Ends marked end
           going-wrong y f p end q = subst (Ends marked) (sym q) (differing (some_left (λ prog. differs) low (λ w prog d reply c.
               unanswered (machine_of w.table) (claimed w) reply (suc k) (here prog) (count - (k + 1)) o (next w prog d)
               (answer y None f p w))))
@@ -298,29 +278,29 @@ module _ (held : Claimed) (rid count : ℕ) (is_open : Bool) (code : List Instr)
                 let r = process prog (resumed m into u) (at % 64 + 1) (done + 1) in
                 let z : count - k ≡ suc (count - (k + 1)) = omega arith in
                 let a : replay_of w rid reply (count - k) (suc k) (here prog)
-                ≡ replay_of w rid reply (count - (k + 1)) (suc (suc k)) (r (take done positions ++ (at % 64) ∷ [])) =
+                ≡ replay_of w rid reply (count - (k + 1)) (suc (suc k)) (r (positions ++ (at % 64) ∷ [])) =
                 rw z
                 (answered (machine_of w.table) (claimed w) reply (suc k) (here prog) (count - (k + 1)) o u (next w prog d)
                 (answer y (Some u) f p w)
                 ∙ ap (λ t. replay_of w rid reply (count - (k + 1)) (suc (suc k)) (resumed_with prog u t)) (asks w prog d)) in
-                (λ i. replay_of w rid reply (count - (k + 1)) (suc (add-one k i)) (r (path-marked i))) ∙ sym a
+                (λ i. replay_of w rid reply (count - (k + 1)) (suc (add-one k i)) (r marked)) ∙ sym a
                 ∙ g.goes w prog reply d c;
           }
 
       -- a request that replies
-      pub going-replied : (u : ℕ) → x ≡ Replies u → (end : Option Ended) → end ≡ cond (eqb k count) (Some (ended_with (reply_of 0 u) (done + 1))) None →
+      pub going-replied : (u : ℕ) → x ≡ Replies u → (end : Option (Option Response)) → end ≡ cond (eqb k count) (Some (reply_of 0 u)) None →
           Ends marked end
       going-replied u q end c =
-          stopping marked (done + 1) (reply_of 0 u) (omega (arith, unbound)) last 0 u (λ h. next) end c
+          stopping marked (reply_of 0 u) last 0 u (λ h. next) end c
         where
           replies : (w : Setting held) (prog : ℕ) → code_at w.table prog ≡ code →
-              gone limit w.table (here prog) ≡ advanced m (stop_at (at % 64 + 1) (done + 1) (Replying u)) (take done positions ++ (at % 64) ∷ [])
+              gone limit w.table (here prog) ≡ advanced m (stop_at (at % 64 + 1) (done + 1) (Replying u)) (positions ++ (at % 64) ∷ [])
           replies w prog d = replied limit w.table (here prog) (omega (arith, unbound)) m u (does w prog (Replies u) d q)
 
           next : Does (stop 0 u)
           next w prog d = ap (λ t. next_of t.stop.next) (replies w prog d)
 
-          last : k ≡ count → Comes 0 (λ prog. ended (said 0 u) (prog ∷ take (done + 1) marked))
+          last : k ≡ count → Comes 0 (λ prog. ended (said 0 u) (prog ∷ marked))
           last p w prog d reply o =
               ends (machine_of w.table) (claimed w) (suc k) (here prog) reply (o ∙ answered-at p) 0 u (next w prog d)
-              ∙ ap (λ path. ended (said 0 u) (prog ∷ path)) (ap (λ t. t.path) (replies w prog d) ∙ sym path-marked)
+              ∙ ap (λ path. ended (said 0 u) (prog ∷ path)) (ap (λ t. t.path) (replies w prog d))

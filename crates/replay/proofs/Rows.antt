@@ -4,23 +4,22 @@ use Rattle.basics.proofs.Tests.{clash}
 use Rattle.model.specs.Audit.{bad10, bad11, bad12, same_reply, same_path}
 use Rattle.model.specs.Checks.{Check, check, first_fault, breaks, verdict}
 use Rattle.model.specs.Replay.{Reply, Outcome, ended}
-use Rattle.replay.specs.Promises.{replied_as, way, outcome_by, row_by}
+use Rattle.replay.specs.Promises.{replied_as, outcome_of, row_by}
 use Rattle.replay.specs.declared.lookups.Response.{Response}
-use Rattle.replay.specs.declared.paths.Path.{Path}
-use Rattle.replay.specs.declared.replays.Ended.{Ended}
 
 -- the row that a request breaks first: its outcome, its response, and the outcome of the first request of its group
 abbrev pub row_of : Outcome → Reply → Outcome → Option ℕ
 row_of o reply first = cond (bad10 o) (Some 10) (cond (bad11 reply o) (Some 11) (cond (bad12 first o) (Some 12) None))
 
 -- is the row that code finds
-module _ (path : Path) (reply : Option Response) (same : Bool) where
-  pub row-differs : (end : Option Ended) → end ≡ None → (first : Outcome) → row_by end reply same ≡ row_of (outcome_by path end) (replied_as reply) first
+module _ (way : List ℕ) (reply : Option Response) (same : Bool) where
+  pub row-differs : (end : Option (Option Response)) → end ≡ None → (first : Outcome) →
+      row_by end reply same ≡ row_of (outcome_of end way) (replied_as reply) first
   row-differs end q first = rw q
 
-  pub row-ends : (end : Option Ended) (e : Ended) → end ≡ Some e → (a : Reply) (w : List ℕ) → same ≡ same_path (way path) w →
-      row_by end reply same ≡ row_of (outcome_by path end) (replied_as reply) (ended a w)
-  row-ends end e q a w s = rw (q, s) (ap (cond (not (same_reply (replied_as e.reply) (replied_as reply))) (Some 11)) (either (same_path (way path) w)))
+  pub row-ends : (end : Option (Option Response)) (own : Option Response) → end ≡ Some own → (a : Reply) (w : List ℕ) → same ≡ same_path way w →
+      row_by end reply same ≡ row_of (outcome_of end way) (replied_as reply) (ended a w)
+  row-ends end own q a w s = rw (q, s) (ap (cond (not (same_reply (replied_as own) (replied_as reply))) (Some 11)) (either (same_path way w)))
     where
       either : (x : Bool) → ◌≡◌ {A = Option ℕ} (cond x None (Some 12)) (cond (not x) (Some 12) None)
       either true = refl

@@ -29,11 +29,10 @@ use Rattle.replay.specs.Index.{Claimed}
 use Rattle.replay.specs.Judges.{Ready, verdict_of}
 use Rattle.replay.specs.declared.batch.Fault.{Fault}
 use Rattle.replay.specs.declared.lookups.Arrival.{Arrival}
-use Rattle.replay.specs.declared.lookups.Response.{Response as Reply_}
+use Rattle.replay.specs.declared.lookups.Response.{Response as Said}
 use Rattle.replay.specs.declared.orders.Item.{Item}
 use Rattle.replay.specs.declared.orders.Items.{Items}
 use Rattle.replay.specs.declared.paths.Path.{Path}
-use Rattle.replay.specs.declared.replays.Ended.{Ended}
 
 -- ── lines by their request ──
 abbrev pub arrival_of : List Event → ℕ → Option Arrival
@@ -42,7 +41,7 @@ arrival_of (Request q prog a b ∷ es) r = cond (eqb q r) (Some (record { prog =
 arrival_of (Response q status value ∷ es) r = arrival_of es r
 
 -- what a request was answered with, if it was
-abbrev pub replied_as : Option Reply_ → Reply
+abbrev pub replied_as : Option Said → Reply
 replied_as None = silent
 replied_as (Some x) = said x.status x.value
 
@@ -85,47 +84,25 @@ Answers c r k o x = (w : Setting c) → answered_as x ≡ compare (machine_of w.
 abbrev pub most_of : (is_open : Bool) (k count done : ℕ) → ℕ
 most_of is_open k count done = cond (is_open && eqb k count) done limit
 
-abbrev pub ended_with : Option Reply_ → (done : ℕ) → Ended
-ended_with reply done = record { reply = reply; done = done }
-
-abbrev pub done_in : Option Ended → ℕ
-done_in None = 0
-done_in (Some e) = e.done
-
--- how a replay came out, of a request of program `prog` that carried out these positions first
-abbrev pub outcome_in : (prog : ℕ) → (positions : List ℕ) → Option Ended → Outcome
-outcome_in prog positions None = differs
-outcome_in prog positions (Some e) = ended (replied_as e.reply) (prog ∷ take e.done positions)
+-- how a replay came out, with its way
+abbrev pub outcome_of : Option (Option Said) → (way : List ℕ) → Outcome
+outcome_of None way = differs
+outcome_of (Some reply) way = ended (replied_as reply) way
 
 -- the replay of a process that has `left` operations to do, the next of which has the number k
 abbrev pub replay_of : {c : Claimed} → Setting c → (rid : ℕ) → Reply → (left k : ℕ) → Process → Outcome
 replay_of w r reply left k p = replay (machine_of w.table) (claimed_in w r) reply left k p ((machine_of w.table).advance p)
 
 -- the replay of a request with inputs a and b, left open or not, whatever its program's number and its response
-pub record Replays (c : Claimed) (rid count a b : ℕ) (is_open : Bool) (code : List Instr) (positions : List ℕ) (end : Option Ended) : Type 0 where
-  pub few : done_in end ≤ limit
+pub record Replays (c : Claimed) (rid count a b : ℕ) (is_open : Bool) (code : List Instr) (positions : List ℕ)
+    (end : Option (Option Said)) : Type 0 where
   pub outcome : (w : Setting c) (prog : ℕ) (reply : Reply) → code_at w.table prog ≡ code → left_open reply ≡ is_open →
-      outcome_in prog positions end ≡ replay_of w rid reply count 1 ((machine_of w.table).start prog a b)
+      outcome_of end (prog ∷ positions) ≡ replay_of w rid reply count 1 ((machine_of w.table).start prog a b)
 
 -- ── rows 10 to 12 of one request ──
 -- the way of a request, as the model has it
 abbrev pub way : Path → List ℕ
-way p = p.prog ∷ take p.done p.positions
-
-abbrev pub no_path : Path
-no_path = record { prog = 0; done = 0; positions = [] }
-
-abbrev pub path_at : List Path → ℕ → Path
-path_at paths k = get_or paths k no_path
-
--- none is longer than a request may go on
-abbrev pub Short : List Path → Type 0
-Short paths = (k : ℕ) → (path_at paths k).done ≤ limit
-
--- how a replay came out, with its way
-abbrev pub outcome_by : Path → Option Ended → Outcome
-outcome_by p None = differs
-outcome_by p (Some e) = ended (replied_as e.reply) (way p)
+way p = p.prog ∷ p.positions.items
 
 -- the replay of the request of an `of` line, which has the response `reply`
 abbrev pub replayed : (table : List Program) → Claimed → (opening : ℕ → Content) → Of → Reply → Math.Option Process → Outcome
@@ -137,17 +114,16 @@ replayed table c opening x reply (some p) =
 abbrev pub InTable : List Event → (rid : ℕ) → Type 0
 InTable events r = (a : Arrival) → arrival_of events r ≡ Some a → a.prog < most_programs
 
-pub record ReplaysRequest (table : List Program) (events : List Event) (x : Of) (is_open : Bool) (c : Claimed) (old path : Path)
-    (end : Option Ended) : Type 0 where
-  pub few : old.done ≤ limit → path.done ≤ limit
+pub record ReplaysRequest (table : List Program) (events : List Event) (x : Of) (is_open : Bool) (c : Claimed) (path : Path)
+    (end : Option (Option Said)) : Type 0 where
   pub outcome : InTable events x.rid → (opening : ℕ → Content) → AnsweredFrom opening c → (reply : Reply) → left_open reply ≡ is_open →
-      outcome_by path end ≡ replayed table c opening x reply (request_of (machine_of table) events x.rid)
+      outcome_of end (way path) ≡ replayed table c opening x reply (request_of (machine_of table) events x.rid)
 
 -- the row that a request breaks first: how its replay came out, its response, and whether its way is that of the first of its group
-abbrev pub row_by : Option Ended → Option Reply_ → (same_way : Bool) → Option ℕ
+abbrev pub row_by : Option (Option Said) → Option Said → (same_way : Bool) → Option ℕ
 row_by None reply same_way = Some 10
-row_by (Some e) reply same_way =
-    cond (not (same_reply (replied_as e.reply) (replied_as reply))) (Some 11) (cond same_way None (Some 12))
+row_by (Some own) reply same_way =
+    cond (not (same_reply (replied_as own) (replied_as reply))) (Some 11) (cond same_way None (Some 12))
 
 -- r is the first fault of rows 10 to 12
 abbrev pub JudgesRequests : List Program → Batch → Claimed → Result (Unit {0}) Fault → Type 0

@@ -71,7 +71,7 @@ impl<'a> Claims<'a> {
         ensures within { IfSome result (λ i. (i < length self.now.log) × (i < most_entries)) }
     {
         let mut j = usize::from(self.heads[bucket(rid, num)]);
-        // A chain, whose lines stand in no slice.
+        // Along a chain no range gives the next place.
         while let Some(entry) = self.log.get(j) {
             if entry.rid == rid && entry.num == num {
                 return Some(j);

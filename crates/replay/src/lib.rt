@@ -29,12 +29,10 @@ pub fn judge(ps: &Programs, batch: Batch, objects: &mut Objects) -> Result<(), F
     ensures refuses { IfErr result (λ f. f.row ≢ 0) }
 {
     let claims = Claims::new(batch.log, objects);
-    if let Err(broken) = row_8(batch.ofs, &claims) {
-        return Err(Fault {
-            row: 8,
-            line: broken.line as u64,
-        });
-    }
+    row_8(batch.ofs, &claims).map_err(|broken| Fault {
+        row: 8,
+        line: broken.line as u64,
+    })?;
     let mut order = [0; ITEMS];
     if put_order(batch, &mut order) {
         return Err(Fault { row: 9, line: 0 });

@@ -20,6 +20,9 @@ pub(crate) struct Response {
     pub value: u64,
 }
 
+// What the trace has for a request: its response, or nothing of one that was left open.
+pub(crate) type Reply = Option<Response>;
+
 // The `request` line of a rid.
 pub(crate) fn arrival_of(events: &[Event], rid: u64) -> Option<Arrival>
     ensures { result ≡ arrival_of events.now rid }
@@ -36,7 +39,7 @@ pub(crate) fn arrival_of(events: &[Event], rid: u64) -> Option<Arrival>
 }
 
 // The `response` line of a rid.
-pub(crate) fn response_of(events: &[Event], rid: u64) -> Option<Response>
+pub(crate) fn response_of(events: &[Event], rid: u64) -> Reply
     ensures { replied_as result ≡ response_of events.now rid }
 {
     for event in events {

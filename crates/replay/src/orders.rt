@@ -9,7 +9,7 @@ ghost use Rattle.replay.specs.Promises.{ItemIs, ItemsTo, Returns};
 use crate::batch::Batch;
 use text::{Entry, Event, ITEMS, OBJECTS, Ofs, Slots};
 
-// An item's lane (0 the trace, 1 + object), the slot of its request, and its number there.
+// An item's lane (0 the trace, 1 + object), the slot of its request, and its number there: each cast is to a narrower type, which has no From.
 #[derive(Clone, Copy)]
 pub(crate) struct Item {
     pub lane: u8,

@@ -1,46 +1,35 @@
 // The way of a request through its program.
-ghost use Rattle.std.specs.Prelude.{◌≡◌, ◌≤◌, ◌<◌, ℕ};
-ghost use Rattle.text.specs.Formats.{most_ofs};
+ghost use Rattle.std.specs.Prelude.{◌≡◌, slice_index_or};
 ghost use Rattle.model.specs.Audit.{same_path};
-ghost use Rattle.machine.specs.Processes.{limit};
-ghost use Rattle.replay.specs.Promises.{way, path_at, Short};
+ghost use Rattle.replay.specs.Promises.{way};
 
+use arrayvec::ArrayVec;
 use machine::LIMIT;
-use text::OFS;
 
-// A program, and the positions that a request of it carried out: the first `done`. An array and no `ArrayVec`: the replay counts `done` in any
-// case, since it ends by it.
-#[derive(Clone, Copy)]
+// The positions that a request carried out.
+pub(crate) type Positions = ArrayVec<u8, LIMIT>;
+
+// A program, and the positions that a request of it carried out.
+#[derive(Default, Drop)]
 pub(crate) struct Path {
     pub prog: u64,
-    pub done: usize,
-    pub positions: [u8; LIMIT],
+    pub positions: Positions,
 }
 
 impl Path {
-    // Of a request that is not replayed yet.
-    pub const NONE: Path = Path {
-        prog: 0,
-        done: 0,
-        positions: [0; LIMIT],
-    };
-
-    // No derived ==: what stands behind the first `done` does not count.
     pub fn same(&self, other: &Path) -> bool
-        requires own { self.now.done ≤ limit }
-        requires other { other.now.done ≤ limit }
         ensures { result ≡ same_path (way self.now) (way other.now) }
     {
-        self.prog == other.prog && self.positions[..self.done] == other.positions[..other.done]
+        self.prog == other.prog && self.positions.as_slice() == other.positions.as_slice()
     }
 }
 
-// The way in place k is that in place f, which most often is itself.
-pub(crate) fn same_way(paths: &[Path; OFS], k: usize, f: usize) -> bool
-    requires own { k < most_ofs }
-    requires first { f < most_ofs }
-    requires short { Short paths.now }
-    ensures { result ≡ same_path (way (path_at paths.now k)) (way (path_at paths.now f)) }
+// The way of a request is that of the first of its group, in place f of those before it, or itself.
+pub(crate) fn same_way(paths: &[Path], f: usize, path: &Path) -> bool
+    ensures { result ≡ same_path (way path.now) (way (slice_index_or paths.now f path.now)) }
 {
-    k == f || paths[k].same(&paths[f])
+    match paths.get(f) {
+        Some(first) => path.same(first),
+        None => true,
+    }
 }

@@ -106,9 +106,6 @@ module _ (ofs : List Of) (log : List Entry) (i : ℕ) (s : Scanned (bad7 ofs) (s
   abbrev Fault : ℕ → Type 0
   Fault line = line ≡ length ofs + 1 + i → broken_line (Err (record { line = line })) ≡ row7 (batch_of [] (report_of ofs log))
 
-  pub claims-beyond : beyond ofs l.rid l.num ≡ true → (line : ℕ) → Fault line
-  claims-beyond b line e = scan-bad s h d line (omega arith) (bad-is ofs (take i log) l ∙ rw b)
-
   pub claims-twice : (j : ℕ) → j < i → claims l.rid l.num (get_or log j d) ≡ true → (line : ℕ) → Fault line
   claims-twice j g b line e =
       let t : j < length (take i log) = omega (arith, length-take i log) in

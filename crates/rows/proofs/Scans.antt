@@ -1,7 +1,7 @@
 -- A scan down a list of lines: what one line does to `first_bad`, and a search among the lines above it.
-use Rattle.std.proofs.Common.{◌≡◌, ℕ, suc, ◌+◌, ◌<◌, ◌≤◌, Bool, true, false, List, [], ◌∷◌, length, get_or, take, drop, reverse, sym, ap, ◌∙◌, arith, add-zero}
-use Rattle.std.proofs.Math.Option.{none, some}
-use Rattle.std.proofs.lemmas.List.{take_more, drop_more, drop_all, reverse-append}
+use Rattle.std.proofs.Common.{◌≡◌, ℕ, suc, ◌+◌, ◌<◌, Bool, true, false, List, [], ◌∷◌, length, get_or, take, drop, reverse, sym, ap, ◌∙◌, arith}
+use Rattle.std.proofs.Math.Option.{some}
+use Rattle.std.proofs.lemmas.List.{take_more, drop_more, reverse-append}
 use Rattle.std.proofs.lemmas.List.Sorted.{list_any-IsPermutation, IsPermutation-reverse}
 use Rattle.std.specs.List.{list_any}
 use Rattle.model.specs.FirstBad.{first_bad}
@@ -11,9 +11,6 @@ pub record Scanned {A : Type 0} (bad : List A → A → Bool) (n : ℕ) (xs : Li
   pub same : first_bad bad (n + i) (reverse (take i xs)) (drop i xs) ≡ first_bad bad n [] xs
 
 module _ {A : Type 0} {bad : List A → A → Bool} {n : ℕ} {xs : List A} where
-  pub scan-start : Scanned bad n xs 0
-  scan-start = record { same = rw add-zero }
-
   -- line i
   module _ {i : ℕ} (s : Scanned bad n xs i) (h : i < length xs) (d : A) where
     here : first_bad bad (n + i) (reverse (take i xs)) (get_or xs i d ∷ drop (i + 1) xs) ≡ first_bad bad n [] xs
@@ -28,9 +25,6 @@ module _ {A : Type 0} {bad : List A → A → Bool} {n : ℕ} {xs : List A} wher
 
     pub scan-bad : (line : ℕ) → line ≡ n + i → bad (reverse (take i xs)) (get_or xs i d) ≡ true → some line ≡ first_bad bad n [] xs
     scan-bad line l b = ap some l ∙ rw b at here
-
-  pub scan-end : {i : ℕ} → Scanned bad n xs i → length xs ≤ i → none ≡ first_bad bad n [] xs
-  scan-end {i} s h = rw (drop_all i xs h) at s.same
 
 -- the lines above one are searched alike upward and downward
 pub any-reverse : {A : Type 0} (p : A → Bool) (xs : List A) → list_any p (reverse xs) ≡ list_any p xs

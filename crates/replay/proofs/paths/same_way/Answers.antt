@@ -1,10 +1,11 @@
 -- `same_way` meets its contract.
-use Rattle.std.proofs.Common.{sym, ◌∙◌}
-use Rattle.basics.proofs.Tests.{eqb-self}
+use Rattle.std.proofs.Common.{◌≤◌, length, sym}
+use Rattle.std.proofs.lemmas.List.{get_or_past}
 use Rattle.model.proofs.Equal.{path-same}
-use Rattle.replay.specs.Promises.{way, path_at}
+use Rattle.replay.specs.Promises.{way}
 use Rattle.replay.proofs.paths.same_way.Goals as goal
 
-pub returns-then-k-f : goal.returns-then-k-f
-returns-then-k-f c =
-    rw c.if-k-f.true (eqb-self c.args.f ∙ sym (path-same (way (path_at c.args.paths.now c.args.f))))
+pub returns-in-None : goal.returns-in-None
+returns-in-None c =
+    let h : length c.args.paths.now ≤ c.args.f = c.in-None.ensures.lookup.3 in
+    rw (get_or_past c.args.paths.now c.args.f c.args.path.now h) (sym (path-same (way c.args.path.now)))

@@ -1,12 +1,11 @@
 -- `judge_requests` meets its contract.
-use Rattle.std.proofs.Common.{◌≡◌, ◌+◌, Ok, Err, sym, ◌∙◌, arith, rules}
+use Rattle.std.proofs.Common.{◌≡◌, ◌+◌, Ok, Err, sym, ◌∙◌, arith}
 use Rattle.replay.specs.Held.{batch_held}
-use Rattle.replay.proofs.Judging.{batch_of, short-start, judging-start, judging-stop, judging-next, judging-end, judges_same, row-not_0}
+use Rattle.replay.proofs.Judging.{batch_of, judging-start, judging-stop, judging-next, judging-end, judges_same, row-not_0}
 use Rattle.replay.proofs.requests.judge_requests.Goals as goal
 
 pub loop-k-init : goal.loop-k-init
-loop-k-init c =
-    judging-start _ _ _ _ (omega (arith, c.as_slice-ofs.ensures.fits)) (search rules) (short-start _ 64 (omega arith))
+loop-k-init c = judging-start _ _ _ _ (omega (arith, c.as_slice-ofs.ensures.fits)) c.new-paths.ensures
 
 pub returns-in-Some-clause-judges : goal.returns-in-Some-clause-judges
 returns-in-Some-clause-judges c =
@@ -25,14 +24,15 @@ returns-in-Some-clause-judges c =
       replies = c.response_of-reply.ensures;
       opened = c.is_none-is_open.ensures;
       replays = c.replay_request-end.ensures;
-      same_is = c.same_way.ensures;
+      same_is = rw c.deref.ensures.0 at c.same_way.ensures;
       row_is = c.row_of.ensures;
     })
     _ c.in-Some.is)
 
 pub loop-k-preserved : goal.loop-k-preserved
 loop-k-preserved c =
-    judging-next _ _ _ c.loop-k.k c.unwrap_or-f.result _ _ _ c.loop-k.invariant c.loop-k-test.true
+    rw c.push.ensures.items
+    (judging-next _ _ _ c.loop-k.k c.unwrap_or-f.result _ _ _ c.loop-k.invariant c.loop-k-test.true
     (record {
       reply = c.response_of-reply.result;
       is_open = c.is_none-is_open.result;
@@ -42,10 +42,10 @@ loop-k-preserved c =
       replies = c.response_of-reply.ensures;
       opened = c.is_none-is_open.ensures;
       replays = c.replay_request-end.ensures;
-      same_is = c.same_way.ensures;
+      same_is = rw c.deref.ensures.0 at c.same_way.ensures;
       row_is = c.row_of.ensures;
     })
-    c.in_default.is
+    c.in_default.is)
 
 pub returns-in-Some-clause-refuses : goal.returns-in-Some-clause-refuses
 returns-in-Some-clause-refuses c = row-not_0 c.replay_request-end.result c.response_of-reply.result c.same_way.result c.in-Some.row (sym c.row_of.ensures ∙ c.in-Some.is)
