@@ -5,6 +5,7 @@ use mathlib.Core.Bool.{false≢true}
 use borrow.Author.Tests.{eq-eqb, eqb-true}
 use lib.Dec.{eqb}
 use Rattle.std.specs.Option.{option_or}
+use Rattle.basics.specs.Lists.{All}
 use Rattle.basics.proofs.Tests.{clash, by_bool, and-true}
 use Rattle.lines.specs.Line.{Format, prefix, line_of}
 use Rattle.lines.specs.Place.{Found, line, line_end, found, nothing, found_at, line_at, found_in}
@@ -136,6 +137,13 @@ module _ {S : Type 0} where
   unfolding found_in
   told-known ks a s at k h p vs e i f = only-first ks a s at k h vs e (ap found_in (sym i) ∙ f)
 
+  -- and where none of them answers, none stands there
+  pub told-unknown : (ks : List (Kind S)) (s : List ℕ) (at : ℕ) → All (λ k. nothing ≡ line_at k.format s at) ks →
+      untold ≡ kind_at ks s at
+  unfolding kind_at
+  told-unknown [] s at h = refl
+  told-unknown (k ∷ ks) s at h = ap behind (told-unknown ks s at h.1) ∙ ap (λ t. or_behind t (kind_at ks s at)) h.0
+
 -- ── what a line adds ──
 
 module _ {S : Type 0} (k : Kind S) (ks : List (Kind S)) (x : S) (p : List ℕ) where
@@ -146,6 +154,80 @@ module _ {S : Type 0} (k : Kind S) (ks : List (Kind S)) (x : S) (p : List ℕ) w
   pub adds-later : line_of k.format p ≡ none → add_line (k ∷ ks) x p ≡ add_line ks x p
   unfolding add_line
   adds-later e = rw (e, add_line) refl
+
+-- what is known of the line at a place where kind k stands: where it ends, its numbers, and what it adds
+pub record Tells {S : Type 0} (ks : List (Kind S)) (s : List ℕ) (at k : ℕ) (vs : List ℕ) (e : ℕ) : Type 0 where
+  pub among : k < length ks
+  pub end : e ≡ line_end s at
+  pub numbers : line_of (kind ks k).format (line (drop at s)) ≡ some vs
+  pub added : (x : S) → add_line ks x (line (drop at s)) ≡ (kind ks k).add x vs
+
+module _ {S : Type 0} (s : List ℕ) (at : ℕ) where
+  -- the first kind that fits tells it, behind kinds that do not
+  pub kind-tells : (ks : List (Kind S)) → apart ks ≡ true → (k : ℕ) (vs : List ℕ) (e : ℕ) → told k vs e ≡ kind_at ks s at →
+      Tells ks s at k vs e
+  unfolding kind_at
+  kind-tells [] a k vs e t = clash (cc)
+  kind-tells (j ∷ ks) a k vs e t =
+      go (line_of j.format (line (drop at s))) refl
+      (t ∙ ap (λ f. or_behind f (kind_at ks s at)) (line-of j.format (apart-head j ks a) s at))
+      (kind-tells ks (apart-tail j ks a).1)
+    where
+      later : line_of j.format (line (drop at s)) ≡ none → (f : FoundAs) → f ≡ kind_at ks s at → told k vs e ≡ behind f →
+          ((k : ℕ) (vs : List ℕ) (e : ℕ) → told k vs e ≡ kind_at ks s at → Tells ks s at k vs e) → Tells (j ∷ ks) s at k vs e
+      later i (told n ws d) q z rest =
+          let y : suc n ≡ k = cc in
+          let w : vs ≡ ws = cc in
+          let x : e ≡ d = cc in
+          let f = rest n vs e ((λ i. told n (w i) (x i)) ∙ q) in
+          subst (λ k. Tells (j ∷ ks) s at k vs e) y
+          (record {
+            among = omega (arith, f.among);
+            end = f.end;
+            numbers = f.numbers;
+            added = λ x. adds-later j ks x (line (drop at s)) i ∙ f.added x;
+          })
+      later i untold q z rest = clash (cc)
+
+      go : (o : Maybe (List ℕ)) → line_of j.format (line (drop at s)) ≡ o →
+          told k vs e ≡ or_behind (found_at o (line_end s at)) (kind_at ks s at) →
+          ((k : ℕ) (vs : List ℕ) (e : ℕ) → told k vs e ≡ kind_at ks s at → Tells ks s at k vs e) → Tells (j ∷ ks) s at k vs e
+      go (some ws) i z rest =
+          let y : 0 ≡ k = cc in
+          let w : ws ≡ vs = cc in
+          let n : line_of j.format (line (drop at s)) ≡ some vs = i ∙ ap some w in
+          let d : e ≡ line_end s at = cc in
+          subst (λ k. Tells (j ∷ ks) s at k vs e) y
+          (record { among = omega arith; end = d; numbers = n; added = λ x. adds-first j ks x (line (drop at s)) vs n })
+      go none i z rest = later i (kind_at ks s at) refl z rest
+
+  -- past all kinds but the last
+  pub last-tells : (ks : List (Kind S)) → apart ks ≡ true → (k n : ℕ) (vs : List ℕ) (e : ℕ) → told k vs e ≡ kind_at ks s at →
+      length ks ≡ suc n → n ≤ k → Tells ks s at n vs e
+  last-tells ks a k n vs e t l g =
+      let f = kind-tells ks a k vs e t in
+      let y : k ≡ n = omega (arith, f.among, l, g) in
+      subst (λ k. Tells ks s at k vs e) y f
+
+  -- where no kind stands, nothing is added
+  pub none-tells : (ks : List (Kind S)) → apart ks ≡ true → untold ≡ kind_at ks s at → (x : S) → add_line ks x (line (drop at s)) ≡ none
+  unfolding kind_at add_line
+  none-tells [] a t x = refl
+  none-tells (j ∷ ks) a t x =
+      go (line_of j.format (line (drop at s))) refl
+      (t ∙ ap (λ f. or_behind f (kind_at ks s at)) (line-of j.format (apart-head j ks a) s at))
+      (none-tells ks (apart-tail j ks a).1)
+    where
+      later : (f : FoundAs) → f ≡ kind_at ks s at → untold ≡ behind f → untold ≡ kind_at ks s at
+      later (told n ws d) q z = clash (cc)
+      later untold q z = q
+
+      go : (o : Maybe (List ℕ)) → line_of j.format (line (drop at s)) ≡ o →
+          untold ≡ or_behind (found_at o (line_end s at)) (kind_at ks s at) →
+          (untold ≡ kind_at ks s at → (x : S) → add_line ks x (line (drop at s)) ≡ none) →
+          add_line (j ∷ ks) x (line (drop at s)) ≡ none
+      go (some ws) i z rest = clash (cc)
+      go none i z rest = adds-later j ks x (line (drop at s)) i ∙ rest (later (kind_at ks s at) refl z) x
 
 -- what `or_else` answers
 abbrev OrElse : {T : Type 0} → (a b r : Option T) → Type 0
@@ -161,60 +243,61 @@ pub record Told {L S : Type 0} (k : Kind S) (from : List ℕ → L) (adds : Adds
   pub adding : (vs : List ℕ) (y : S) → k.add y vs ≡ adds (from vs) y
   pub bytes : least ≤ length k.format.word + 2
 
+-- a text of two kinds, of which either is tried first: what a reader answers is what the kind that stands there tells
 module _ {L S : Type 0} {k j : Kind S} {first second : List ℕ → L} {adds : Adds L S} {least : ℕ}
-    (h : Told k first adds least) (g : Told j second adds least) (s : List ℕ) (at : ℕ) where
-  abbrev here : List ℕ
-  here = line (drop at s)
-
+    (h : Told k first adds least) (g : Told j second adds least) (a : apart (k ∷ j ∷ []) ≡ true) (s : List ℕ) (at : ℕ) where
   abbrev kinds : List (Kind S)
   kinds = k ∷ j ∷ []
 
-  -- the line is of the first kind, of the second alone, or of none
-  of-first : (vs : List ℕ) → line_of k.format here ≡ some vs → Stands kinds adds least s at (first vs) (line_end s at)
-  of-first vs e =
+  abbrev one : Option (L × ℕ)
+  one = line_by first (line_at k.format s at)
+
+  abbrev other : Option (L × ℕ)
+  other = line_by second (line_at j.format s at)
+
+  of-first : (vs : List ℕ) (e : ℕ) → found vs e ≡ line_at k.format s at → Stands kinds adds least s at (first vs) e
+  unfolding found_in
+  of-first vs e f =
+      let t = kind-tells s at kinds a 0 vs e (told-known kinds a s at 0 (omega arith) (Some (vs, e)) vs e refl f) in
       record {
-        end = refl;
-        long = omega (arith, h.bytes, line-longer k.format here vs e);
-        added = λ y. adds-first k (j ∷ []) y here vs e ∙ h.adding vs y;
+        end = t.end;
+        long = omega (arith, h.bytes, line-longer k.format (line (drop at s)) vs t.numbers, t.end);
+        added = λ y. t.added y ∙ h.adding vs y;
       }
 
-  of-second : (vs : List ℕ) → line_of k.format here ≡ none → line_of j.format here ≡ some vs →
-      Stands kinds adds least s at (second vs) (line_end s at)
-  of-second vs i e =
+  of-second : (vs : List ℕ) (e : ℕ) → found vs e ≡ line_at j.format s at → Stands kinds adds least s at (second vs) e
+  unfolding found_in
+  of-second vs e f =
+      let t = kind-tells s at kinds a 1 vs e (told-known kinds a s at 1 (omega arith) (Some (vs, e)) vs e refl f) in
       record {
-        end = refl;
-        long = omega (arith, g.bytes, line-longer j.format here vs e);
-        added = λ y. adds-later k (j ∷ []) y here i ∙ adds-first j [] y here vs e ∙ g.adding vs y;
+        end = t.end;
+        long = omega (arith, g.bytes, line-longer j.format (line (drop at s)) vs t.numbers, t.end);
+        added = λ y. t.added y ∙ g.adding vs y;
       }
 
-  of-none : line_of k.format here ≡ none → line_of j.format here ≡ none → (y : S) → add_line kinds y here ≡ none
-  unfolding add_line
-  of-none i e y = adds-later k (j ∷ []) y here i ∙ adds-later j [] y here e
+  of-none : nothing ≡ line_at k.format s at → nothing ≡ line_at j.format s at → (y : S) → add_line kinds y (line (drop at s)) ≡ none
+  of-none i l = none-tells s at kinds a (told-unknown kinds s at (i, (l, tt)))
 
   -- the first kind is tried first
-  pub first-tried : (a r : Option (L × ℕ)) → a ≡ line_by first (line_at k.format s at) →
-      OrElse a (line_by second (line_at j.format s at)) r → LineIs kinds adds least s at r
-  first-tried a r d e =
-      subst (LineIs kinds adds least s at) (sym (or-else a _ r e ∙ ap (λ a. option_or a (line_by second (line_at j.format s at))) d))
-      (rw (line-of k.format h.whole s at, line-of j.format g.whole s at) (go (line_of k.format here) refl (line_of j.format here) refl))
+  pub first-tried : (p r : Option (L × ℕ)) → p ≡ one → OrElse p other r → LineIs kinds adds least s at r
+  first-tried p r d e =
+      subst (LineIs kinds adds least s at) (sym (or-else p other r e ∙ ap (λ p. option_or p other) d))
+      (go (line_at k.format s at) refl (line_at j.format s at) refl)
     where
-      go : (o : Maybe (List ℕ)) → line_of k.format here ≡ o → (q : Maybe (List ℕ)) → line_of j.format here ≡ q →
-          LineIs kinds adds least s at
-          (option_or (line_by first (found_at o (line_end s at))) (line_by second (found_at q (line_end s at))))
-      go (some vs) i q l = of-first vs i
-      go none i (some vs) l = of-second vs i l
-      go none i none l = of-none i l
+      go : (o : Found) → line_at k.format s at ≡ o → (q : Found) → line_at j.format s at ≡ q →
+          LineIs kinds adds least s at (option_or (line_by first o) (line_by second q))
+      go (found vs e) i q l = of-first vs e (sym i)
+      go nothing i (found vs e) l = of-second vs e (sym l)
+      go nothing i nothing l = of-none (sym i) (sym l)
 
-  -- the second kind is tried first: no line is of both
-  pub second-tried : differ k.format.word j.format.word ≡ true → (a r : Option (L × ℕ)) → a ≡ line_by second (line_at j.format s at) →
-      OrElse a (line_by first (line_at k.format s at)) r → LineIs kinds adds least s at r
-  second-tried w a r d e =
-      subst (LineIs kinds adds least s at) (sym (or-else a _ r e ∙ ap (λ a. option_or a (line_by first (line_at k.format s at))) d))
-      (rw (line-of k.format h.whole s at, line-of j.format g.whole s at) (go (line_of j.format here) refl (line_of k.format here) refl))
+  -- the second kind is tried first
+  pub second-tried : (p r : Option (L × ℕ)) → p ≡ other → OrElse p one r → LineIs kinds adds least s at r
+  second-tried p r d e =
+      subst (LineIs kinds adds least s at) (sym (or-else p one r e ∙ ap (λ p. option_or p one) d))
+      (go (line_at j.format s at) refl (line_at k.format s at) refl)
     where
-      go : (q : Maybe (List ℕ)) → line_of j.format here ≡ q → (o : Maybe (List ℕ)) → line_of k.format here ≡ o →
-          LineIs kinds adds least s at
-          (option_or (line_by second (found_at q (line_end s at))) (line_by first (found_at o (line_end s at))))
-      go (some vs) l o i = of-second vs (not-both k.format j.format here vs w l) l
-      go none l (some vs) i = of-first vs i
-      go none l none i = of-none i l
+      go : (q : Found) → line_at j.format s at ≡ q → (o : Found) → line_at k.format s at ≡ o →
+          LineIs kinds adds least s at (option_or (line_by second q) (line_by first o))
+      go (found vs e) l o i = of-second vs e (sym l)
+      go nothing l (found vs e) i = of-first vs e (sym i)
+      go nothing l nothing i = of-none (sym i) (sym l)

@@ -1,8 +1,8 @@
 -- What stands for a text that was read, and what the readers promise. What is lent holds anything where the text is unreadable, but for the
 -- programs.
-use Rattle.std.specs.Prelude.{ℕ, ◌+◌, ◌/◌, ◌≤◌, ◌<◌, List, ◌≡◌, map, length, get_or, take, replicate, Result, Ok, Err, IsErr}
+use Rattle.std.specs.Prelude.{ℕ, ◌+◌, ◌/◌, ◌%◌, ◌≤◌, ◌<◌, Bool, not, ◌||◌, eqb, List, [], ◌∷◌, ◌++◌, ◌≡◌, map, length, get_or, take, replicate, Result, Ok, Err, IsErr}
 use Rattle.basics.specs.Firsts.{firsts}
-use Rattle.text.specs.Formats.{most_bytes, most_entries, most_instructions, most_programs, most_requests, most_responses, most_rids}
+use Rattle.text.specs.Formats.{most_arrivals, most_bytes, most_entries, most_instructions, most_programs, most_requests, most_responses, most_rids}
 use Rattle.text.specs.Text.{Read, readable, unreadable}
 use Rattle.text.specs.Programs.{no_instr, no_program, read_programs}
 use Rattle.text.specs.Report.{Report}
@@ -67,6 +67,20 @@ moves_in x = map (move_from x.arrivals.items) x.lines.items
 -- past the last line
 abbrev pub no_move : Move
 no_move = Turn 0
+
+-- whether there is room for one line more, and for the numbers of an arrival
+abbrev pub has_room : Schedule → Move → Bool
+has_room x (Arrive rid prog a b) = not (eqb (length x.lines.items) most_moves || eqb (length x.arrivals.items) most_arrivals)
+has_room x (Turn rid) = not (eqb (length x.lines.items) most_moves)
+
+-- one line more: an arrival has its place behind the others, a turn a rid
+abbrev pub with_move : Schedule → Move → Schedule
+with_move x (Arrive rid prog a b) =
+    record {
+      lines = record { items = x.lines.items ++ ArrivalAt (length x.arrivals.items) ∷ [] };
+      arrivals = record { items = x.arrivals.items ++ record { rid = rid; prog = prog; a = a; b = b } ∷ [] };
+    }
+with_move x (Turn rid) = record { lines = record { items = x.lines.items ++ TurnOf (rid % most_rids) ∷ [] }; arrivals = x.arrivals }
 
 -- the rid of a turn is one
 abbrev pub TurnIn : Move → Type 0

@@ -21,5 +21,5 @@ pub use programs::{Instr, Program, Programs, read_programs};
 pub use reading::BadLine;
 pub use report::{Entry, Log, Of, Ofs, Op, read_report};
 pub use schedule::{Move, Schedule, read_schedule};
-pub use slots::Slots;
+pub use slots::{SLOT_BUCKETS, Slots};
 pub use trace::{Event, Trace, read_trace};

@@ -1,14 +1,14 @@
 // The schedule: `arrive` and `turn` lines. A text holds up to MOVES lines, most of them turns, so a line is kept in four bytes, and
 // the numbers of the arrivals stand in a list of their own. Rids and places fit 16 and 8 bits, to which no From narrows.
-ghost use Rattle.std.specs.Prelude.{◌≡◌, ◌≤◌, [], length, slice_get, get_or};
+ghost use Rattle.std.specs.Prelude.{◌≡◌, ◌≤◌, [], cond, length, slice_get, get_or};
 ghost use Rattle.lines.specs.Place.{line_at};
 ghost use Rattle.text.specs.Formats.{arrive_line, turn_line};
-ghost use Rattle.text.specs.Held.{read_in, moves_in, most_moves, arrival_at, no_move, TurnIn};
+ghost use Rattle.text.specs.Held.{read_in, moves_in, most_moves, arrival_at, no_move, TurnIn, has_room, with_move};
 ghost use Rattle.text.specs.Steps.{line_by, turned_from, arrived_from, ScheduleKept, ScheduleJoins};
 ghost use Rattle.text.specs.declared.schedule.ScheduleLine.TheVariants.{Arrive as Arrived};
 ghost use Rattle.text.specs.Schedule.{read_schedule};
 
-use crate::limits::{ARRIVALS, MOST_NUMBER, MOST_RID, MOVES};
+use crate::limits::{ARRIVALS, MOST_NUMBER, MOST_RID, MOVES, RIDS};
 use crate::reading::{BadLine, Line, read_lines};
 use arrayvec::ArrayVec;
 use lines::line_at;
@@ -91,6 +91,25 @@ impl Schedule {
             },
             Some(Kept::Arrival(place)) => self.arrival(usize::from(place)),
             None => Move::Turn { rid: 0 },
+        }
+    }
+
+    // A line behind the others. Where there is no room for it, or for the numbers of an arrival, nothing changes and the answer is false. Any
+    // rid is taken: that of a turn modulo RIDS, so that it is one.
+    pub fn put_move(&mut self, x: Move) -> bool
+        ensures room { result ≡ has_room self.old x }
+        ensures schedule { self.new ≡ cond result (with_move self.old x) self.old }
+    {
+        match x {
+            Move::Arrive { rid, prog, a, b } => {
+                if self.lines.is_full() || self.arrivals.is_full() {
+                    return false;
+                }
+                self.lines.push(Kept::Arrival(self.arrivals.len() as u8));
+                self.arrivals.push(Arrival { rid, prog, a, b });
+                true
+            }
+            Move::Turn { rid } => self.lines.try_push(Kept::Turn((rid % RIDS) as u16)).is_ok(),
         }
     }
 

@@ -9,7 +9,7 @@ use crate::limits::OFS;
 use crate::report::{Of, Ofs};
 
 // Rids fall into so many buckets, by their remainder.
-const BUCKETS: usize = 256;
+pub const SLOT_BUCKETS: usize = 256;
 
 // Stands where a bucket has no line: a byte for each bucket, where an Option takes two. (No From narrows to a byte, and usize has none for u64.)
 const NO_SLOT: u8 = OFS as u8;
@@ -17,13 +17,13 @@ const NO_SLOT: u8 = OFS as u8;
 // The first `of` line in each bucket of rids, NO_SLOT where there is none.
 #[derive(Clone, Copy)]
 pub struct Slots {
-    pub heads: [u8; BUCKETS],
+    pub heads: [u8; SLOT_BUCKETS],
 }
 
 fn bucket(rid: u64) -> usize
     ensures { result ≡ slot_bucket rid }
 {
-    rid as usize % BUCKETS
+    rid as usize % SLOT_BUCKETS
 }
 
 impl Slots {
@@ -31,7 +31,7 @@ impl Slots {
     pub fn of(ofs: &Ofs) -> Slots
         ensures { FirstSlots ofs.now.items result.heads }
     {
-        let mut heads = [NO_SLOT; BUCKETS];
+        let mut heads = [NO_SLOT; SLOT_BUCKETS];
         // i is what is kept.
         for i in (0..ofs.len()).rev() {
             heads[bucket(ofs[i].rid)] = i as u8;
