@@ -1,13 +1,13 @@
 -- Laws of a put: stores that hold contents hold those with the key put. Stores that hold nothing.
-use Rattle.std.proofs.Common.{◌≡◌, ℕ, zero, suc, ◌+◌, ◌-◌, ◌≤◌, ◌<◌, Bool, true, false, cond, ◌&&◌, eqb, get_or, set, length, List, Option, Some, None, refl, sym, ap, ◌∙◌, subst, add-one, arith, length-set, get_or-set_same, get_or-set_other, eqb-true, lt-ltb, le-ltb}
+use Rattle.std.proofs.Common.{◌≡◌, ℕ, zero, suc, ◌+◌, ◌-◌, ◌≤◌, ◌<◌, Bool, true, false, cond, ◌&&◌, eqb, get_or, set, length, replicate, List, Option, Some, None, refl, sym, ap, ◌∙◌, subst, add-one, arith, length-set, get_or-set_same, get_or-set_other, eqb-true, lt-ltb, le-ltb}
 use lib.ListN.{length-replicate, get_or-replicate}
 use borrow.Author.Tests.{eqb-false}
 use Rattle.basics.proofs.Tests.{by_bool, and-true}
 use Rattle.cells.specs.declared.chains.Cell.{Cell}
 use Rattle.cells.specs.declared.stores.Stores.{Stores}
-use Rattle.cells.specs.Rows.{is_of, cell_at, is_at, no_cell}
+use Rattle.cells.specs.Rows.{is_of, cell_at, is_at}
 use Rattle.cells.specs.Chains.{last, bucket_of, bucket_at, in_bucket, walk, cell_of}
-use Rattle.cells.specs.Stores.{Contents, Holds, PutsInto, cell_in, place_of, put_in, fits, added, head_of, no_stores}
+use Rattle.cells.specs.Stores.{Contents, Holds, PutsInto, cell_in, place_of, put_in, fits, added, head_of}
 use Rattle.cells.proofs.Last.{last-next, last-le, last-true, last-same}
 use Rattle.cells.proofs.RowLaws.{SameKeys, same_at, same-bucket, same-bucket-at, link-same, cell-same, cell-other, new-same, changed-same}
 use Rattle.cells.proofs.Looking.{at-keys, place-is, place-le, found, held-none}
@@ -171,11 +171,13 @@ module _ {s : Stores} {c : Contents} (h : Holds s c) (object key value : ℕ) wh
       put-added g a w x y = rw (y, x) (new-into unheld g)
 
 -- ── at the start, and the same contents ──
-pub blank : Holds no_stores (λ object key. None)
+-- cleared heads, and cells of any kind
+pub blank : (cells : List Cell) → length cells ≡ 2048 →
+    Holds (record { cells = cells; heads = replicate 1016 0; used = 0 }) (λ object key. None)
 unfolding last
-blank =
+blank cells r =
     record {
-      cells_room = length-replicate 2048 no_cell;
+      cells_room = r;
       heads_room = length-replicate {A = ℕ} 1016 0;
       few = omega arith;
       head = λ b k. get_or-replicate 1016 b 0 0 k;

@@ -1,6 +1,6 @@
 -- Laws of the objects as they are now: what an operation does to the registers and the stores, `apply` does to the objects. A new kind is a
 -- clause of `apply` and one law here, beside `store-put` and `store-look`.
-use Rattle.std.proofs.Common.{◌≡◌, ℕ, ◌+◌, ◌%◌, ◌<◌, ◌≤◌, true, false, cond, eqb, ltb, List, [], ◌∷◌, ◌++◌, length, get_or, take, set, sym, refl, ap, ◌∙◌, subst, arith, length-append, length-set, length-take, get_or-set_other, get_or-set_same, le-ltb, lt-ltb, ne_eqb, eqb-true}
+use Rattle.std.proofs.Common.{◌≡◌, ℕ, ◌+◌, ◌%◌, ◌<◌, ◌≤◌, true, false, cond, eqb, ltb, List, [], ◌∷◌, ◌++◌, length, get_or, take, set, replicate, sym, refl, ap, ◌∙◌, subst, arith, length-append, length-set, length-take, get_or-set_other, get_or-set_same, le-ltb, lt-ltb, ne_eqb, eqb-true}
 use lib.ListN.{length-replicate, get_or-replicate}
 use lib.Seq.{sets}
 use Rattle.std.proofs.lemmas.List.{take_more}
@@ -9,23 +9,26 @@ use borrow.Author.Tests.{eqb-false}
 use Rattle.basics.proofs.Tests.{by_bool}
 use Rattle.text.specs.declared.report.Entry.{Entry}
 use Rattle.text.specs.declared.report.Op.{Op}
+use Rattle.cells.specs.declared.chains.Cell.{Cell}
 use Rattle.cells.specs.declared.stores.Stores.{Stores}
 use Rattle.cells.specs.Stores.{Contents, Holds, PutsInto, put_in, fits, added}
 use Rattle.cells.proofs.Putting.{blank, holds_same}
 use Rattle.machine.specs.Objects.{Content, register, store, apply, finds, is_put, is_write, at_start}
 use Rattle.machine.specs.Logs.{after, after_all, answers_from}
 use Rattle.machine.specs.declared.objects.Objects.{Objects}
-use Rattle.machine.specs.Held.{no_objects, cells_of, ObjectsHeld, register_left, stores_left, StoreIs, PerformedIs, AnsweredIs}
+use Rattle.machine.specs.Held.{cells_of, ObjectsHeld, register_left, stores_left, StoreIs, PerformedIs, AnsweredIs}
 use Rattle.machine.proofs.LogLaws.{after-snoc, answers-snoc, answers-length, sets-snoc}
 
 -- ── before the first operation ──
-pub objects-start : ObjectsHeld no_objects at_start
-objects-start =
+-- cleared registers and heads, and cells of any kind
+pub objects-start : (cells : List Cell) → length cells ≡ 2048 →
+    ObjectsHeld (record { registers = replicate 8 0; stores = record { cells = cells; heads = replicate 1016 0; used = 0 } }) at_start
+objects-start cells r =
     record {
       room = length-replicate {A = ℕ} 8 0;
       values = λ o k. rw (lt-ltb o 8 k) (ap register (sym (get_or-replicate 8 o 0 0 k)));
       stores = λ o k. rw (le-ltb o 8 k);
-      contents = holds_same (λ o key. by_bool (ltb o 8) (λ t. rw t) (λ t. rw t)) blank;
+      contents = holds_same (λ o key. by_bool (ltb o 8) (λ t. rw t) (λ t. rw t)) (blank cells r);
     }
 
 -- ── an operation on a store ──
@@ -170,7 +173,7 @@ module _ (h now : Objects) (cs : ℕ → Content) (ls : List Entry) (i : ℕ) (o
   reached : length (take i ls) ≡ i
   reached = omega (arith, length-take i ls)
 
-  pub answered-room : h.stores.used + length ls ≤ 2048 → now.stores.used < 2048
+  pub answered-room : h.stores.used + i < 2048 → now.stores.used < 2048
   answered-room r = omega (arith, a.few, reached)
 
   pub answered-more : (d : Entry) (next : Objects) (v : ℕ) → PerformedIs now (after_all cs (take i ls)) (get_or ls i d).op next v →

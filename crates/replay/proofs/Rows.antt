@@ -3,13 +3,18 @@ use Rattle.std.proofs.Common.{◌≡◌, ℕ, Bool, true, false, cond, not, List
 use Rattle.basics.proofs.Tests.{clash}
 use Rattle.model.specs.Audit.{bad10, bad11, bad12, same_reply, same_path}
 use Rattle.model.specs.Checks.{Check, check, first_fault, breaks, verdict}
-use Rattle.model.specs.Replay.{Reply, Outcome, ended}
-use Rattle.replay.specs.Promises.{replied_as, outcome_of, row_by}
+use Rattle.model.specs.Replay.{Reply, silent, said, Outcome, ended}
+use Rattle.replay.specs.Promises.{replied_as, left_open, outcome_of, row_by}
 use Rattle.replay.specs.declared.lookups.Response.{Response}
 
 -- the row that a request breaks first: its outcome, its response, and the outcome of the first request of its group
 abbrev pub row_of : Outcome → Reply → Outcome → Option ℕ
 row_of o reply first = cond (bad10 o) (Some 10) (cond (bad11 reply o) (Some 11) (cond (bad12 first o) (Some 12) None))
+
+-- a request was left open where its reply is the silent one
+pub silent-same : (reply : Reply) → left_open reply ≡ same_reply silent reply
+silent-same silent = refl
+silent-same (said s v) = refl
 
 -- is the row that code finds
 module _ (way : List ℕ) (reply : Option Response) (same : Bool) where

@@ -8,7 +8,8 @@ pub loop-i-preserved : goal.loop-i-preserved
 loop-i-preserved c = λ cs held g.
     let a = c.loop-i.invariant cs held g in
     let inside = c.loop-i-test.true in
-    answered-more _ _ cs _ _ _ _ inside a _ _ _ (c.perform.ensures _ a.held (answered-room _ _ cs _ _ _ _ inside a g))
+    let room = answered-room _ _ cs _ _ _ _ inside a (omega (arith, inside, g)) in
+    answered-more _ _ cs _ _ _ _ inside a _ _ _ (c.perform.ensures _ a.held room)
 
 pub returns : goal.returns
 returns c = λ cs held g.
