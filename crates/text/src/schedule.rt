@@ -1,6 +1,6 @@
 // The schedule: `arrive` and `turn` lines. A text holds up to MOVES lines, most of them turns, so a line is kept in four bytes, and
 // the numbers of the arrivals stand in a list of their own. Rids and places fit 16 and 8 bits, to which no From narrows.
-ghost use Rattle.std.specs.Prelude.{◌≡◌, ◌≤◌, [], cond, length, slice_get, get_or};
+ghost use Rattle.std.specs.Prelude.{ℕ, ◌≡◌, ◌≤◌, [], cond, length, slice_get, get_or, IfOk};
 ghost use Rattle.lines.specs.Place.{line_at};
 ghost use Rattle.text.specs.Formats.{arrive_line, turn_line};
 ghost use Rattle.text.specs.Held.{read_in, moves_in, most_moves, arrival_at, no_move, TurnIn, has_room, with_move};
@@ -64,7 +64,8 @@ impl Schedule {
     // One with no line.
     #[tactic(auto, unfolding(crate::specs::Held::moves_in))]
     pub fn new() -> Schedule
-        ensures { moves_in result ≡ [] }
+        ensures moves { moves_in result ≡ [] }
+        ensures kept { ScheduleKept result 0 }
     {
         Schedule {
             lines: ArrayVec::new(),
@@ -206,7 +207,8 @@ impl Line for ScheduleLine {
 // Reads a schedule.
 #[tactic(auto, unfolding(crate::specs::Schedule::read_schedule))]
 pub fn read_schedule(s: &[u8], schedule: &mut Schedule) -> Result<(), BadLine>
-    ensures { read_in result (moves_in schedule.new) ≡ read_schedule s.now }
+    ensures read { read_in result (moves_in schedule.new) ≡ read_schedule s.now }
+    ensures kept { IfOk result (λ _. (at : ℕ) × ScheduleKept schedule.new at) }
 {
     schedule.clear();
     read_lines::<ScheduleLine>(s, schedule, &mut ())

@@ -30,14 +30,14 @@ returns-in_err-map_err-3 c =
     refuses _ _ _ _ (Schedule w.0) (left-by _ f c.from_residual-in_err-map_err-3.ensures.1 ∙ ap Err is)
     (at-13 _ _ _ _ _ _ c.read_programs.ensures
     _ (ok-was c.read_programs.result c.map_err.result _ c.map_err.ensures.cases _ c.in_ok-map_err.was) _ c.check_rules.ensures
-    _ (ok-was c.check_rules.result c.map_err-2.result _ c.map_err-2.ensures.cases _ c.in_ok-map_err-2.was) _ _ c.read_schedule.ensures w.0 w.1)
+    _ (ok-was c.check_rules.result c.map_err-2.result _ c.map_err-2.ensures.cases _ c.in_ok-map_err-2.was) _ _ c.read_schedule.ensures.read w.0 w.1)
 
 pub record_moves-requires : goal.record_moves-requires
 record_moves-requires c = record {
   programs = programs-known _ c.args.schedule.now 0 0 _ _ c.read_programs.ensures _ (ok-was c.read_programs.result c.map_err.result _ c.map_err.ensures.cases _ c.in_ok-map_err.was);
   schedule = scheduled _ _ 0 0 _ _ c.read_programs.ensures
       _ (ok-was c.read_programs.result c.map_err.result _ c.map_err.ensures.cases _ c.in_ok-map_err.was) _ c.check_rules.ensures
-      _ (ok-was c.check_rules.result c.map_err-2.result _ c.map_err-2.ensures.cases _ c.in_ok-map_err-2.was) _ _ c.read_schedule.ensures
+      _ (ok-was c.check_rules.result c.map_err-2.result _ c.map_err-2.ensures.cases _ c.in_ok-map_err-2.was) _ _ c.read_schedule.ensures.read
       _ (ok-was c.read_schedule.result c.map_err-3.result _ c.map_err-3.ensures.cases _ c.in_ok-map_err-3.was);
 }
 
@@ -46,6 +46,6 @@ returns c =
     let e =
     past-13 c.args.programs.now c.args.schedule.now (length c.args.trace.now) (length c.args.report.now) _ _ c.read_programs.ensures
     _ (ok-was c.read_programs.result c.map_err.result _ c.map_err.ensures.cases _ c.in_ok-map_err.was) _ c.check_rules.ensures
-    _ (ok-was c.check_rules.result c.map_err-2.result _ c.map_err-2.ensures.cases _ c.in_ok-map_err-2.was) _ _ c.read_schedule.ensures
+    _ (ok-was c.check_rules.result c.map_err-2.result _ c.map_err-2.ensures.cases _ c.in_ok-map_err-2.was) _ _ c.read_schedule.ensures.read
     _ (ok-was c.read_schedule.result c.map_err-3.result _ c.map_err-3.ensures.cases _ c.in_ok-map_err-3.was) in
     rw e c.record_moves.ensures
