@@ -1,6 +1,5 @@
 -- The checks of the reference host in their order: each refusal is that of `record_of`, and so is what is written.
 use Rattle.std.proofs.Common.{◌≡◌, ℕ, min, List, [], ◌∷◌, refl, sym, ap, subst, ◌∙◌, arith, Result as Answer, Ok, Err}
-use lib.ListN.{length-replicate}
 use Rattle.basics.specs.Lists.{All}
 use Rattle.basics.specs.Firsts.{firsts}
 use Rattle.lines.specs.Put.{front}
@@ -17,11 +16,10 @@ use Rattle.model.specs.Batch.{Batch}
 use Rattle.model.specs.Checks.{fault_or, bad_line, contents}
 use Rattle.model.specs.Host.{Host, Result, fault, made, batch_written, and_then}
 use Rattle.model.proofs.Scans.{holds, passes}
-use Rattle.cells.specs.Rows.{no_cell}
 use Rattle.machine.specs.Held.{ObjectsHeld}
 use Rattle.machine.specs.Objects.{at_start}
 use Rattle.machine.specs.Rules.{broken_line, row2}
-use Rattle.machine.proofs.Performing.{objects-start}
+use Rattle.machine.proofs.Performing.{no-objects-start}
 use Rattle.host.specs.Recorded.{run_of, batch_from, batch_recorded, Texts, texts_of, fitted, record_of, RecordIs}
 use Rattle.host.specs.Runs.{M, RidIn, Known, Scheduled, Ready, Finished, RunIs, RunsFrom, batch_kept, blank, full_table, ran, recorded_moves}
 use Rattle.host.specs.Steps.{number_of, line_of, recorded_of}
@@ -116,7 +114,7 @@ ready ps moves k s before b =
       scheduled = s;
       nothing = refl;
       opening = at_start;
-      held = objects-start _ (length-replicate 2048 no_cell);
+      held = no-objects-start;
       few_cells = omega arith;
     })
 
@@ -126,7 +124,7 @@ module _ (ps : Programs) (moves : Schedule) (u v : ℕ) (before after : Run) (b 
   t = full_table ps
 
   ran-is : RunIs at_start t (moves_in moves) after q
-  ran-is = f at_start (subst (λ x. ObjectsHeld x.objects at_start) (sym b) (objects-start _ (length-replicate 2048 no_cell)))
+  ran-is = f at_start (subst (λ x. ObjectsHeld x.objects at_start) (sym b) no-objects-start)
 
   -- what is made of a run
   abbrev written : Result (Host (M t)) → Result Texts

@@ -10,13 +10,14 @@ use Rattle.basics.proofs.Tests.{by_bool}
 use Rattle.text.specs.declared.report.Entry.{Entry}
 use Rattle.text.specs.declared.report.Op.{Op}
 use Rattle.cells.specs.declared.chains.Cell.{Cell}
+use Rattle.cells.specs.Rows.{no_cell}
 use Rattle.cells.specs.declared.stores.Stores.{Stores}
 use Rattle.cells.specs.Stores.{Contents, Holds, PutsInto, put_in, fits, added}
 use Rattle.cells.proofs.Putting.{blank, holds_same}
 use Rattle.machine.specs.Objects.{Content, register, store, apply, finds, is_put, is_write, at_start}
 use Rattle.machine.specs.Logs.{after, after_all, answers_from}
 use Rattle.machine.specs.declared.objects.Objects.{Objects}
-use Rattle.machine.specs.Held.{cells_of, ObjectsHeld, register_left, stores_left, StoreIs, PerformedIs, AnsweredIs}
+use Rattle.machine.specs.Held.{no_objects, cells_of, ObjectsHeld, register_left, stores_left, StoreIs, PerformedIs, AnsweredIs}
 use Rattle.machine.proofs.LogLaws.{after-snoc, answers-snoc, answers-length, sets-snoc}
 
 -- ── before the first operation ──
@@ -30,6 +31,9 @@ objects-start cells r =
       stores = λ o k. rw (le-ltb o 8 k);
       contents = holds_same (λ o key. by_bool (ltb o 8) (λ t. rw t) (λ t. rw t)) (blank cells r);
     }
+
+pub no-objects-start : ObjectsHeld no_objects at_start
+no-objects-start = objects-start _ (length-replicate 2048 no_cell)
 
 -- ── an operation on a store ──
 -- with a free cell, a put can be done and takes one at most

@@ -201,14 +201,6 @@ module _ {S : Type 0} (s : List ℕ) (at : ℕ) where
           (record { among = omega arith; end = d; numbers = n; added = λ x. adds-first j ks x (line (drop at s)) vs n })
       go none i z rest = later i (kind_at ks s at) refl z rest
 
-  -- past all kinds but the last
-  pub last-tells : (ks : List (Kind S)) → apart ks ≡ true → (k n : ℕ) (vs : List ℕ) (e : ℕ) → told k vs e ≡ kind_at ks s at →
-      length ks ≡ suc n → n ≤ k → Tells ks s at n vs e
-  last-tells ks a k n vs e t l g =
-      let f = kind-tells ks a k vs e t in
-      let y : k ≡ n = omega (arith, f.among, l, g) in
-      subst (λ k. Tells ks s at k vs e) y f
-
   -- where no kind stands, nothing is added
   pub none-tells : (ks : List (Kind S)) → apart ks ≡ true → untold ≡ kind_at ks s at → (x : S) → add_line ks x (line (drop at s)) ≡ none
   unfolding kind_at add_line

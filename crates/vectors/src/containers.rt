@@ -1,5 +1,5 @@
 // What batches and schedules share: the header of a vector, the parts of a file, and the line that is printed.
-ghost use Rattle.std.specs.Prelude.{◌≡◌, ◌-◌, ◌<◌, ◌≤◌, length, take, drop, IfSome};
+ghost use Rattle.std.specs.Prelude.{◌≡◌, ◌-◌, ◌<◌, length, take, drop, IfSome};
 
 use files::write_front;
 use lines::{line_at, put_line};
@@ -19,7 +19,6 @@ pub(crate) struct Header<'a> {
 pub(crate) fn part(s: &[u8], n: usize) -> (&[u8], &[u8])
     ensures first { result.0.now ≡ take n s.now }
     ensures behind { result.1.now ≡ drop n s.now }
-    ensures shorter { length result.1.now ≡ length s.now - n }
 {
     s.split_at(n.min(s.len()))
 }
@@ -28,7 +27,6 @@ pub(crate) fn part(s: &[u8], n: usize) -> (&[u8], &[u8])
 pub(crate) fn read_header<'a, const N: usize>(s: &'a [u8]) -> Option<(Header<'a>, [u64; N])>
     ensures name { IfSome result (λ h. h.0.name.now ≡ take (length h.0.name.now) s.now) }
     ensures rest { IfSome result (λ h. h.0.rest.now ≡ drop (length s.now - length h.0.rest.now) s.now) }
-    ensures within { IfSome result (λ h. (length h.0.name.now ≤ length s.now) × (length h.0.rest.now ≤ length s.now)) }
     ensures shorter { IfSome result (λ h. 0 < length s.now → length h.0.rest.now < length s.now) }
 {
     let equals = s.iter().position(|b| *b == b'=').unwrap_or(s.len());
